@@ -1,0 +1,136 @@
+-- Laws of one operation on the registers, in this order: the registers that one on the board names; a move's condition; the outcomes of
+-- an operation, one law each; what every operation keeps; and that rolling back restores the registers from before.
+-- How an operation keeps what it keeps is in `FrameLaws`, laws of many operations in turn are in `ReplayLaws`.
+use Prim.Native.Nat.{ℕ, _+_, _-_, _≤_, _<_}
+use native.Mathlib.Decide.{ℕ-discrete}
+use native.Mathlib.Omega.{arith}
+use mathlib.Core.Path.{_≡_, refl, sym, _∙_}
+use mathlib.Core.Logic.{_≢_}
+use mathlib.Core.Bool.{Bool, true, false}
+use mathlib.Core.List.{List}
+use lib.ListN.{length, getD, set, length-set}
+use lib.Seq.{getD-set-same, getD-set-other, set-getD, ext-getD}
+use lib.Dec.{leb}
+use borrow.Author.Tests.{ltb-false, lt-ltb, le-ltb, le-leb, lt-leb, ne-eqb}
+use Rattle.request.specs.declared.Operation.{Operation}
+use Rattle.request.specs.Operations.{codeRead, codeSet, codeAdd, codeClaim, codeMove, lastRegister}
+use Rattle.request.proofs.BoolLaws.{both, neither-true, first-false, second-false}
+use Rattle.registers.specs.Effect.{range, offBoard, added, claimed, movable, moved, exec, response, Executed}
+use Rattle.registers.specs.Rollback.{savedOf, restored}
+use Rattle.registers.proofs.FrameLaws.{InRange, exec-keeps}
+
+-- ---- on the board
+
+pub record OnBoard (o : Operation) : Type 0 where
+  pub r : o .r ≤ lastRegister
+  pub q : o .q ≤ lastRegister
+
+pub on-board : (o : Operation) → offBoard o ≡ false → OnBoard o
+unfolding offBoard
+on-board o e =
+    let apart = neither-true _ _ e in
+    record { r = ltb-false _ _ (apart .0); q = ltb-false _ _ (apart .1) }
+
+-- ---- a move's condition
+
+module _ (o : Operation) (b : List ℕ) where
+  pub movable-both : o .amount ≤ getD b (o .r) 0 → getD b (o .q) 0 + o .amount < range → movable o b ≡ true
+  unfolding movable
+  movable-both enough fits = both (le-leb _ _ enough) (lt-ltb _ _ fits)
+
+  pub movable-short : getD b (o .r) 0 < o .amount → movable o b ≡ false
+  unfolding movable
+  movable-short short = first-false _ (lt-leb _ _ short)
+
+  pub movable-full : range ≤ getD b (o .q) 0 + o .amount → movable o b ≡ false
+  unfolding movable
+  movable-full full = second-false (leb (o .amount) (getD b (o .r) 0)) (le-ltb _ _ full)
+
+-- ---- outcomes
+
+module _ (o : Operation) (b : List ℕ) where
+  pub executed-off : offBoard o ≡ true → Executed o b b 0
+  unfolding exec response
+  executed-off off = record { effect = simp off; response = simp off }
+
+  module _ (on : offBoard o ≡ false) where
+    pub executed-read : o .code ≡ codeRead → Executed o b b (getD b (o .r) 0)
+    unfolding exec response
+    executed-read e = record { effect = simp (on, e); response = simp (on, e) }
+
+    pub executed-set : o .code ≡ codeSet → Executed o b (set b (o .r) (o .amount)) (getD b (o .r) 0)
+    unfolding exec response
+    executed-set e = record { effect = simp (on, e); response = simp (on, e) }
+
+    pub executed-add : o .code ≡ codeAdd → Executed o b (set b (o .r) (added o b)) (added o b)
+    unfolding exec response
+    executed-add e = record { effect = simp (on, e); response = simp (on, e) }
+
+    pub executed-claim : o .code ≡ codeClaim → getD b (o .r) 0 ≡ 0 → Executed o b (set b (o .r) (o .amount)) (o .amount)
+    unfolding exec response claimed
+    executed-claim e z = record { effect = simp (on, e, z); response = simp (on, e, z) }
+
+    pub executed-no-claim : o .code ≡ codeClaim → getD b (o .r) 0 ≢ 0 → Executed o b b (getD b (o .r) 0)
+    unfolding exec response claimed
+    executed-no-claim e n =
+        let taken = ne-eqb _ _ n in
+        record { effect = simp (on, e, taken, set-getD); response = simp (on, e, taken) }
+
+    pub executed-move : o .code ≡ codeMove → movable o b ≡ true
+        → Executed o b (set (set b (o .r) (getD b (o .r) 0 - o .amount)) (o .q) (getD b (o .q) 0 + o .amount)) 1
+    unfolding exec response moved
+    executed-move e m = record { effect = simp (on, e, m); response = simp (on, e, m) }
+
+    pub executed-no-move : o .code ≡ codeMove → movable o b ≡ false → Executed o b b 0
+    unfolding exec response moved
+    executed-no-move e m = record { effect = simp (on, e, m); response = simp (on, e, m) }
+
+    pub executed-unknown : o .code ≢ codeRead → o .code ≢ codeSet → o .code ≢ codeAdd → o .code ≢ codeClaim → o .code ≢ codeMove
+        → Executed o b b 0
+    unfolding exec response
+    executed-unknown r s a c m =
+        let no-set = ne-eqb _ _ s in
+        let no-add = ne-eqb _ _ a in
+        let no-claim = ne-eqb _ _ c in
+        let no-move = ne-eqb _ _ m in
+        record {
+          effect = simp (on, no-set, no-add, no-claim, no-move);
+          response = simp (on, ne-eqb _ _ r, no-set, no-add, no-claim, no-move);
+        }
+
+-- ---- what every operation keeps
+
+module _ (o : Operation) (b : List ℕ) where
+  pub exec-length : length (exec o b) ≡ length b
+  exec-length = exec-keeps o b .count
+
+  -- an operation changes no register that it does not name
+  pub exec-frame : (k : ℕ) → k ≢ o .r → k ≢ o .q → getD (exec o b) k 0 ≡ getD b k 0
+  exec-frame = exec-keeps o b .others
+
+  pub exec-in-range : o .amount < range → InRange b → InRange (exec o b)
+  exec-in-range = exec-keeps o b .inRange
+
+-- ---- rolling back
+
+-- registers c that differ from b in r and q at most are b once the values of b are put back there
+module _ (b c : List ℕ) (r q : ℕ) (long : length c ≡ length b) (others : (k : ℕ) → k ≢ r → k ≢ q → getD c k 0 ≡ getD b k 0) where
+  abbrev r-back : List ℕ
+  r-back = set c r (getD b r 0)
+
+  put-back-at : (k : ℕ) → k < length c → Dec (k ≡ q) → Dec (k ≡ r) → getD (set r-back q (getD b q 0)) k 0 ≡ getD b k 0
+  put-back-at k h (yes e) d = rw e (getD-set-same r-back q (getD b q 0) 0 (simp length-set (omega arith)))
+  put-back-at k h (no f) (yes e) = getD-set-other r-back q k (getD b q 0) 0 f ∙ rw e (getD-set-same c r (getD b r 0) 0 (omega arith))
+  put-back-at k h (no f) (no g) = getD-set-other r-back q k (getD b q 0) 0 f ∙ getD-set-other c r k (getD b r 0) 0 g ∙ others k g f
+
+  put-back : set r-back q (getD b q 0) ≡ b
+  put-back = ext-getD 0 _ b (simp length-set long) (λ k h. put-back-at k (simp length-set at h) (ℕ-discrete k q) (ℕ-discrete k r))
+
+-- what was saved before an operation, put back after it, gives the registers from before
+pub rolled-back : (o : Operation) (b : List ℕ) → restored o (savedOf o b) (exec o b) ≡ b
+unfolding restored savedOf
+rolled-back o b = go (offBoard o) refl
+  where
+    go : (t : Bool) → offBoard o ≡ t → restored o (savedOf o b) (exec o b) ≡ b
+    go true off = simp off (sym (executed-off o b off .effect))
+    go false on = simp on (put-back b (exec o b) (o .r) (o .q) (exec-length o b) (exec-frame o b))

@@ -1,0 +1,110 @@
+// The 64 registers: what to save before an operation, executing it, and rolling it back from what was saved.
+//
+// `exec`, `response` and `replay` of `specs/` say what operations do; callers use them and the laws in `proofs/`.
+// Every function takes any operation: one that names a register over 63 saves zeros, changes nothing and responds 0.
+use request::Operation;
+use request::operations;
+ghost use mathlib.Core.Path.{_≡_};
+ghost use Rattle.registers.specs.Effect.{offBoard, MoveOnBoard, Executed};
+ghost use Rattle.registers.specs.Rollback.{savedOf, restored};
+ghost use Rattle.registers.specs.Replay.{zeroBoard};
+
+// The values, from before an operation, of the registers that it names. Only this crate looks inside.
+pub struct Saved {
+    r: u32,
+    q: u32,
+}
+
+// All registers at 0.
+pub fn zero_board() -> [u32; 64]
+    ensures { λ b. ⌜ b ≡ zeroBoard ⌝ }
+{
+    [0u32; 64]
+}
+
+// What to save before o; the registers are left alone.
+pub fn save(registers: &[u32; 64], o: Operation) -> Saved
+    ensures { λ s. ⌜ s ≡ savedOf o (now (registers .entry)) ⌝ }
+{
+    if off_board(o) {
+        return Saved { r: 0, q: 0 };
+    }
+    let r = registers[o.r as usize];
+    let q = registers[o.q as usize];
+    Saved { r: r, q: q }
+}
+
+// Executes o on the registers, and returns its response.
+pub fn execute(registers: &mut [u32; 64], o: Operation) -> u32
+    ensures { λ x. ⌜ Executed o (now (registers .entry)) (now (registers .exit)) x ⌝ }
+{
+    if off_board(o) {
+        return 0;
+    }
+    let code = o.code;
+    let amount = o.amount;
+    let r = o.r as usize;
+    let before = registers[r];
+    if code == operations::READ {
+        return before;
+    }
+    if code == operations::SET {
+        registers[r] = amount;
+        return before;
+    }
+    if code == operations::ADD {
+        let sum = std::num::wrapping_add_u32(before, amount);
+        registers[r] = sum;
+        return sum;
+    }
+    if code == operations::CLAIM {
+        if before != 0 {
+            return before;
+        }
+        registers[r] = amount;
+        return amount;
+    }
+    if code == operations::MOVE {
+        return execute_move(registers, o);
+    }
+    0
+}
+
+// Executes a move: both registers change, or neither.
+fn execute_move(registers: &mut [u32; 64], o: Operation) -> u32
+    requires { ⌜ MoveOnBoard o ⌝ }
+    ensures { λ x. ⌜ Executed o (now (registers .entry)) (now (registers .exit)) x ⌝ }
+{
+    let amount = o.amount;
+    let r = o.r as usize;
+    let q = o.q as usize;
+    let source = registers[r];
+    let target = registers[q];
+    if source < amount {
+        return 0;
+    }
+    if u32::MAX - amount < target {
+        return 0;
+    }
+    registers[r] = source - amount;
+    registers[q] = target + amount;
+    1
+}
+
+// Puts back what was saved before o.
+pub fn rollback(registers: &mut [u32; 64], o: Operation, s: Saved)
+    ensures { λ _. ⌜ now (registers .exit) ≡ restored o s (now (registers .entry)) ⌝ }
+{
+    if off_board(o) {
+        return;
+    }
+    registers[o.r as usize] = s.r;
+    registers[o.q as usize] = s.q;
+}
+
+// Whether o names a register over 63.
+fn off_board(o: Operation) -> bool
+    ensures { λ x. ⌜ x ≡ offBoard o ⌝ }
+{
+    (operations::LAST_REGISTER < o.r) | (operations::LAST_REGISTER < o.q)
+}
