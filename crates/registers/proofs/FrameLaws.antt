@@ -13,7 +13,7 @@ use lib.Dec.{leb, eqb}
 use borrow.Author.Tests.{ltb-true}
 use Rattle.request.specs.declared.Operation.{Operation}
 use Rattle.request.specs.Operations.{codeSet, codeAdd, codeClaim, codeMove}
-use Rattle.request.proofs.BoolLaws.{both-true, either}
+use Rattle.lists.proofs.BoolLaws.{both-true, either}
 use Rattle.registers.specs.Effect.{range, offBoard, added, claimed, movable, moved, exec}
 
 -- ---- writing a register that the operation names

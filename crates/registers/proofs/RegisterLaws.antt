@@ -14,7 +14,7 @@ use lib.Dec.{leb}
 use borrow.Author.Tests.{ltb-false, lt-ltb, le-ltb, le-leb, lt-leb, ne-eqb}
 use Rattle.request.specs.declared.Operation.{Operation}
 use Rattle.request.specs.Operations.{codeRead, codeSet, codeAdd, codeClaim, codeMove, lastRegister}
-use Rattle.request.proofs.BoolLaws.{both, neither-true, first-false, second-false}
+use Rattle.lists.proofs.BoolLaws.{both, neither-true, first-false, second-false}
 use Rattle.registers.specs.Effect.{range, offBoard, added, claimed, movable, moved, exec, response, Executed}
 use Rattle.registers.specs.Rollback.{savedOf, restored}
 use Rattle.registers.proofs.FrameLaws.{InRange, exec-keeps}

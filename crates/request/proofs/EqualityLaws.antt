@@ -10,7 +10,7 @@ use Rattle.request.specs.declared.Request.{Request}
 use Rattle.request.specs.Operations.{sameOperation}
 use Rattle.request.specs.Sets.{setOf, sameContext}
 use Rattle.request.specs.Request.{sameRequest}
-use Rattle.request.proofs.BoolLaws.{both-true, both, beq-sound, beq-self}
+use Rattle.lists.proofs.BoolLaws.{both-true, both, beq-sound, beq-self}
 use Rattle.request.proofs.NumberLaws.{sameNumber-sound, sameNumber-self}
 use Rattle.request.proofs.WordLaws.{sameWords-sound, sameWords-self}
 

@@ -1,5 +1,4 @@
 -- The laws of the definitions in `specs/`, for this crate's proofs and for the crates above it.
-pub mod BoolLaws
 pub mod NumberLaws
 pub mod WordLaws
 pub mod BitLaws

@@ -14,7 +14,7 @@ use Rattle.request.specs.declared.Number.{Number}
 use Rattle.request.specs.Numbers.{numbered, mostPanels, mostEvents, GoodNumber}
 use Rattle.request.specs.Order.{lexicographic}
 use Rattle.request.specs.Sets.{Words, allZero, isEmpty, bit, member, difference, subset, lowestFrom, lowest, lowestLacking}
-use Rattle.request.proofs.BoolLaws.{true-not-false, both-true}
+use Rattle.lists.proofs.BoolLaws.{true-not-false, both-true}
 use Rattle.request.proofs.NumberLaws.{good-number, number-good}
 use Rattle.request.proofs.OrderLaws.{compared, lexicographic-more, lexicographic-equal}
 use Rattle.request.proofs.BitLaws.{bit-of-zero, lowest-bit, lowest-fits, below-lowest}

@@ -8,7 +8,7 @@ use lib.Dec.{ltb, leb, eqb}
 use borrow.Author.Tests.{ltb-true, leb-true, lt-ltb, le-leb, eqb-true, eqb-false, eq-eqb, not-false}
 use Rattle.request.specs.declared.Number.{Number}
 use Rattle.request.specs.Numbers.{numbered, sameNumber, mostPanels, mostEvents, badNumber, GoodNumber, slotOf, numberOf}
-use Rattle.request.proofs.BoolLaws.{both-true, both, neither-true, neither, same-test}
+use Rattle.lists.proofs.BoolLaws.{both-true, both, neither-true, neither, same-test}
 
 -- ---- good numbers
 

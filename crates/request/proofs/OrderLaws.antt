@@ -10,7 +10,7 @@ use Rattle.request.specs.declared.Number.{Number}
 use Rattle.request.specs.declared.Request.{Request}
 use Rattle.request.specs.Numbers.{sameNumber, mostPanels, mostEvents, GoodNumber, slotOf}
 use Rattle.request.specs.Order.{lexicographic, before}
-use Rattle.request.proofs.BoolLaws.{true-not-false, same-test}
+use Rattle.lists.proofs.BoolLaws.{true-not-false, same-test}
 use Rattle.request.proofs.NumberLaws.{sameNumber-of}
 
 -- ---- lexicographic order, one place of it

@@ -15,7 +15,7 @@ use Rattle.request.specs.declared.Context.{Context}
 use Rattle.request.specs.declared.Number.{Number}
 use Rattle.request.specs.Numbers.{numbered, sameNumber, mostPanels, mostEvents, badNumber, GoodNumber}
 use Rattle.request.specs.Sets.{setOf, Words, emptySet, allZero, isEmpty, namesFrom, bit, wordFor, member, maskOf, join, leave, lackedWords, difference, subset}
-use Rattle.request.proofs.BoolLaws.{true-not-false, both-true, both, neither, second-false, same-test}
+use Rattle.lists.proofs.BoolLaws.{true-not-false, both-true, both, neither, second-false, same-test}
 use Rattle.request.proofs.NumberLaws.{good-number, number-good, sameNumber-sound}
 use Rattle.request.proofs.OrderLaws.{compared}
 use Rattle.request.proofs.WordLaws.{lacked-length}

@@ -14,7 +14,7 @@ use native.Mathlib.Omega.{arith}
 use Rattle.request.specs.declared.Number.{Number}
 use Rattle.request.specs.Numbers.{numbered, noNumber, mostEvents}
 use Rattle.request.specs.Sets.{sameWords, allZero, lackedWords, lowestFrom}
-use Rattle.request.proofs.BoolLaws.{true-not-false, both-true, both, first-false}
+use Rattle.lists.proofs.BoolLaws.{true-not-false, both-true, both, first-false}
 
 -- ---- all zero
 

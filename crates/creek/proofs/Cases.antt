@@ -1,0 +1,51 @@
+-- The ● cases, the faults that a panel could hide, and that the bound is reached: by computation.
+use mathlib.Core.Path.{_≡_, refl}
+use mathlib.Core.List.{map}
+use Rattle.request.specs.Numbers.{sameNumber, badNumber}
+use Rattle.request.specs.Operations.{sameOperation, badOperation}
+use Rattle.request.specs.Sets.{sameWords, sameContext, allZero, isEmpty, namesFrom, bit, member, join, leave}
+use Rattle.request.specs.Sets.{lackedWords, difference, subset}
+use Rattle.request.specs.Order.{before}
+use Rattle.request.specs.Request.{sameRequest, badContext}
+use Rattle.registers.specs.Effect.{offBoard, added, claimed, movable, moved, exec, response}
+use Rattle.registers.specs.Replay.{replayOn, replay}
+use Rattle.creek.specs.Plan.{lastEvent, lastClock, entered, without, made, committing, committingFound}
+use Rattle.creek.specs.Plan.{invokeRefusal, deliverRefusal, commitRefusal}
+use Rattle.creek.specs.Execution.{registers, adjusted, undone, undoRefusal, executedNext, executeRefusal}
+use Rattle.creek.specs.Book.{refusal, accepted}
+use Rattle.creek.specs.Replies.{responseOn, responseIn, executionMark, executionReply, undoReply, acceptedAnswer}
+use Rattle.creek.specs.Replies.{settlementReply, stableReplyDue, namedByRefusal, answerOf, acceptedAwaiting}
+use Rattle.creek.specs.Calls.{badShop, freshRefusal, fresh, accept, step}
+use Rattle.creek.specs.History.{run, settleDown}
+use Rattle.creek.specs.Showing.{registerShown}
+use Rattle.creek.specs.Demand.{mostUndos}
+use Rattle.creek.specs.Examples.{Case, onRegisters, answers, numbers, driven}
+use Rattle.creek.specs.Cases.{standing, worked, afterWorked, cases}
+use Rattle.creek.specs.Faults.{strongHeard, twiceChanged, overtaken, falling, overtaking, faults, reaching}
+
+pub edge-cases : map (λ (c : Case). c .computed) cases ≡ map (λ (c : Case). c .said) cases
+unfolding cases standing worked afterWorked onRegisters answers numbers driven freshRefusal sameNumber badNumber sameOperation badOperation
+    sameWords sameContext allZero isEmpty namesFrom bit member join leave lackedWords difference subset before sameRequest
+    badContext offBoard added claimed movable moved exec response replayOn replay lastEvent lastClock entered made committing
+    committingFound invokeRefusal deliverRefusal commitRefusal registers adjusted undone undoRefusal executedNext executeRefusal
+    refusal accepted acceptedAnswer settlementReply stableReplyDue namedByRefusal answerOf acceptedAwaiting badShop fresh accept
+    step run settleDown registerShown
+edge-cases = refl
+
+-- each fault would show
+pub faults-shown : map (λ (c : Case). c .computed) faults ≡ map (λ (c : Case). c .said) faults
+unfolding faults standing strongHeard twiceChanged overtaken numbers driven sameNumber badNumber sameOperation badOperation sameWords
+    sameContext allZero isEmpty namesFrom bit member join leave lackedWords difference subset before sameRequest badContext
+    offBoard added claimed movable moved exec response replayOn replay lastEvent lastClock entered without made committing
+    committingFound invokeRefusal deliverRefusal commitRefusal registers adjusted undone undoRefusal executedNext executeRefusal
+    refusal accepted responseOn responseIn executionMark executionReply undoReply acceptedAnswer settlementReply stableReplyDue
+    namedByRefusal answerOf acceptedAwaiting badShop fresh accept step run settleDown registerShown
+faults-shown = refl
+
+-- demand 3's bound is reached, so no smaller one holds
+pub bound-reached : map (λ (c : Case). c .computed) reaching ≡ map (λ (c : Case). c .said) reaching
+unfolding reaching falling overtaking mostUndos driven sameNumber badNumber sameOperation badOperation sameWords sameContext
+    allZero isEmpty namesFrom bit member join lackedWords difference subset before sameRequest badContext entered committing
+    committingFound deliverRefusal commitRefusal adjusted undone undoRefusal executedNext executeRefusal refusal accepted badShop
+    fresh accept step settleDown
+bound-reached = refl

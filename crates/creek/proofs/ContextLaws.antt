@@ -1,0 +1,92 @@
+-- Laws of sets of numbers that the plan asks for: which panels a set names after a join or a leave, and a set without a list's numbers.
+use Prim.Native.Nat.{ℕ, zero, suc, _+_, _-_, _<_}
+use native.Mathlib.Omega.{arith}
+use mathlib.Core.Path.{_≡_, refl, sym, ap, _∙_}
+use mathlib.Core.Bool.{Bool, true, false, not, _&&_, and-true, and-assoc}
+use mathlib.Core.List.{List, [], _∷_}
+use lib.ListN.{length, drop, replicate}
+use lib.Seq.{drop-set-lt}
+use lib.Dec.{leb, ltb}
+use borrow.Author.Tests.{ltb-true, le-leb, not-false}
+use Rattle.request.specs.declared.Context.{Context}
+use Rattle.request.specs.declared.Number.{Number}
+use Rattle.request.specs.declared.Request.{Request}
+use Rattle.request.specs.Numbers.{mostPanels, badNumber}
+use Rattle.request.specs.Sets.{emptySet, allZero, namesFrom, member, join, leave}
+use Rattle.lists.proofs.BoolLaws.{both-true}
+use Rattle.request.proofs.NumberLaws.{sameNumber-sym}
+use Rattle.request.proofs.SetLaws.{member-leave, leave-length}
+use Rattle.lists.specs.Lists.{one, count, somePasses}
+use Rattle.creek.specs.Plan.{hasNumber, without}
+use Rattle.lists.proofs.ListLaws.{one-zero}
+
+-- ---- for the crate below: the panels that a set names, from p on
+
+module _ (p : ℕ) (s : Context) (n : Number) (below : n .panel .0 < p) where
+  pub namesFrom-join : namesFrom p (join s n) ≡ namesFrom p s
+  unfolding namesFrom join
+  namesFrom-join = go (badNumber mostPanels n) refl
+    where
+      go : (b : Bool) → badNumber mostPanels n ≡ b → namesFrom p (join s n) ≡ namesFrom p s
+      go true e = rw e
+      go false e = rw (e, drop-set-lt p (s .words) (n .panel .0))
+
+  pub namesFrom-leave : namesFrom p (leave s n) ≡ namesFrom p s
+  unfolding namesFrom leave
+  namesFrom-leave = go (member s n) refl
+    where
+      go : (b : Bool) → member s n ≡ b → namesFrom p (leave s n) ≡ namesFrom p s
+      go true e = rw (e, drop-set-lt p (s .words) (n .panel .0))
+      go false e = rw e
+
+zeros-from : (p k : ℕ) → allZero (drop p (replicate k 0)) ≡ true
+unfolding allZero
+zeros-from zero zero = refl
+zeros-from zero (suc k) = zeros-from zero k
+zeros-from (suc p) zero = refl
+zeros-from (suc p) (suc k) = zeros-from p k
+
+pub namesFrom-empty : (p : ℕ) → namesFrom p emptySet ≡ false
+unfolding namesFrom
+namesFrom-empty p = ap not (zeros-from p mostPanels)
+
+-- ---- a set without the numbers of a list of requests
+
+pub without-length : (s : Context) (l : List Request) → length ((without s l) .words) ≡ length (s .words)
+unfolding without
+without-length s [] = refl
+without-length s (x ∷ xs) = without-length (leave s (x .number)) xs ∙ leave-length s (x .number)
+
+-- it has no number that the set had not
+pub without-member : (s : Context) (l : List Request) (n : Number) → member (without s l) n ≡ true → member s n ≡ true
+unfolding without
+without-member s [] n h = h
+without-member s (x ∷ xs) n h =
+    both-true _ _ (sym (member-leave s (x .number) n) ∙ without-member (leave s (x .number)) xs n h) .0
+
+-- it has the numbers that the set has and no request of the list has
+pub member-without : (s : Context) (l : List Request) (n : Number)
+    → member (without s l) n ≡ (member s n && not (somePasses (hasNumber n) l))
+unfolding without
+member-without s [] n = sym (and-true (member s n))
+member-without s (x ∷ xs) n =
+    member-without (leave s (x .number)) xs n
+    ∙ ap (λ (b : Bool). b && not (somePasses (hasNumber n) xs)) (member-leave s (x .number) n)
+    ∙ ap (λ (b : Bool). member s n && not b && not (somePasses (hasNumber n) xs)) (sameNumber-sym (x .number) n)
+    ∙ and-assoc (member s n) (not (hasNumber n x)) (not (somePasses (hasNumber n) xs))
+    ∙ ap (λ (b : Bool). member s n && b) (step (hasNumber n x))
+  where
+    step : (b : Bool) → (not b && not (leb 1 (count (hasNumber n) xs))) ≡ not (leb 1 (one b + count (hasNumber n) xs))
+    step true = ap not (sym (le-leb 1 (1 + count (hasNumber n) xs) (omega arith)))
+    step false = let z : 0 + count (hasNumber n) xs ≡ count (hasNumber n) xs = omega arith in rw z
+
+-- x's panel is not below p
+abbrev pub beyond : ℕ → Request → Bool
+beyond p x = not (ltb (x .number .panel .0) p)
+
+pub without-namesFrom : (p : ℕ) (s : Context) (l : List Request) → count (beyond p) l ≡ 0 → namesFrom p (without s l) ≡ namesFrom p s
+unfolding without
+without-namesFrom p s [] h = refl
+without-namesFrom p s (x ∷ xs) h =
+    without-namesFrom p (leave s (x .number)) xs (omega arith)
+    ∙ namesFrom-leave p s (x .number) (ltb-true _ _ (not-false _ (one-zero (beyond p x) (omega arith))))

@@ -1,0 +1,70 @@
+-- The cases at the edges that document 01 marks with ●: one list, each case what the definitions compute beside what the document says.
+-- That the two are equal is `edge-cases` in `proofs/Cases`.
+use Prim.Native.Nat.{ℕ}
+use mathlib.Core.List.{List, [], _∷_, _++_}
+use lib.ListN.{replicate}
+use Rattle.request.specs.Numbers.{numbered}
+use Rattle.request.specs.Sets.{emptySet, join}
+use Rattle.request.specs.Refusal as refused
+use Rattle.creek.specs.Plan.{order}
+use Rattle.creek.specs.Book.{Call, deliver, commit}
+use Rattle.creek.specs.Calls.{Replica, freshRefusal, fresh}
+use Rattle.creek.specs.History.{run}
+use Rattle.creek.specs.Showing.{registerShown, undosShown, executionsShown}
+use Rattle.creek.specs.Examples.{Case, case, read, setTo, add, claim, move, weak, strong, make, onRegisters, answers, numbers, driven}
+
+-- the printout's input for panel 2 of 3
+unfoldable pub worked : List Call
+worked =
+    deliver (weak 0 1 10 (setTo 4 6))
+    ∷ deliver (weak 1 1 5 (add 3 4))
+    ∷ deliver (strong 1 2 12 (claim 0 2) (join emptySet (numbered 1 1)))
+    ∷ commit (numbered 1 2)
+    ∷ []
+
+unfoldable pub afterWorked : Replica
+afterWorked = driven (fresh 3 2) worked
+
+-- the standing order at panel 2 of 3 after those calls
+unfoldable pub standing : List Call → List ℕ
+standing calls = numbers (order (run (fresh 3 2) calls .book .plan))
+
+-- ---- the cases
+
+unfoldable pub cases : List Case
+cases =
+    -- fresh 8, 7 good; 9, 0 and 3, 3 refused 1
+    case (freshRefusal 8 7 ∷ freshRefusal 9 0 ∷ freshRefusal 3 3 ∷ []) (refused.accepted ∷ refused.badShop ∷ refused.badShop ∷ [])
+    -- and then it returns a one-panel shop, panel 0
+    ∷ case (fresh 9 0 .book .plan .panels ∷ fresh 9 0 .book .plan .own ∷ []) (1 ∷ 0 ∷ [])
+    -- add 4,294,967,295 to 5: 4
+    ∷ case (onRegisters 5 0 (add 4294967295 0)) (4 ∷ 4 ∷ 0 ∷ [])
+    -- claim for 3 where 2 stands: response 2, unchanged
+    ∷ case (onRegisters 2 0 (claim 0 3)) (2 ∷ 2 ∷ 0 ∷ [])
+    -- with 0 in q, move 5 from 5: 1, leaving 0; move 6 from 5: 0
+    ∷ case (onRegisters 5 0 (move 5 0 1)) (1 ∷ 0 ∷ 5 ∷ [])
+    ∷ case (onRegisters 5 0 (move 6 0 1)) (0 ∷ 5 ∷ 0 ∷ [])
+    -- move 1 into 4,294,967,295: 0
+    ∷ case (onRegisters 5 4294967295 (move 1 0 1)) (0 ∷ 5 ∷ 4294967295 ∷ [])
+    -- move with r = q: 3
+    ∷ case (answers (fresh 2 0) (make 0 (move 1 3 3) ∷ deliver (weak 1 1 0 (move 1 3 3)) ∷ []))
+    (refused.badOperation ∷ refused.badOperation ∷ [])
+    -- equal clocks: 0/9 stands before 1/1, whichever is heard first
+    ∷ case (standing (deliver (weak 1 1 7 (read 0)) ∷ deliver (weak 0 9 7 (read 0)) ∷ [])) (0 ∷ 9 ∷ 1 ∷ 1 ∷ [])
+    ∷ case (standing (deliver (weak 0 9 7 (read 0)) ∷ deliver (weak 1 1 7 (read 0)) ∷ [])) (0 ∷ 9 ∷ 1 ∷ 1 ∷ [])
+    -- own clock equal to the last good; one less 5
+    ∷ case (answers (fresh 1 0) (make 9 (read 0) ∷ make 9 (read 0) ∷ make 8 (read 0) ∷ []))
+    (refused.accepted ∷ refused.accepted ∷ refused.clockBack ∷ [])
+    -- a 64th request good, a 65th 6
+    ∷ case (answers (fresh 1 0) (replicate 65 (make 9 (read 0)))) (replicate 64 refused.accepted ++ refused.shiftFull ∷ [])
+    -- heard twice 7; with another clock 8
+    ∷ case (answers (fresh 3 2) (deliver (weak 1 1 5 (add 3 4)) ∷ deliver (weak 1 1 5 (add 3 4)) ∷ deliver (weak 1 1 6 (add 3 4)) ∷ []))
+    (refused.accepted ∷ refused.heldAlready ∷ refused.numberClash ∷ [])
+    -- the same settlement again: 11
+    ∷ case (answers (fresh 3 2) (worked ++ commit (numbered 1 2) ∷ [])) (replicate 4 refused.accepted ++ refused.settledAlready ∷ [])
+    -- the order after the printout's input: 1/1, 1/2, 0/1
+    ∷ case (numbers (order (afterWorked .book .plan))) (1 ∷ 1 ∷ 1 ∷ 2 ∷ 0 ∷ 1 ∷ [])
+    -- and its undone 3, carried 6, register 0 at 2, register 4 at 6
+    ∷ case (undosShown afterWorked ∷ executionsShown afterWorked ∷ registerShown afterWorked 0 ∷ registerShown afterWorked 4 ∷ [])
+    (3 ∷ 6 ∷ 2 ∷ 6 ∷ [])
+    ∷ []

@@ -1,0 +1,16 @@
+-- What is to be believed of the protocol, from lists to demand 3; then what else is claimed of it; then examples.
+pub mod Plan
+pub mod Execution
+pub mod Book
+pub mod Replies
+pub mod Calls
+pub mod History
+pub mod Showing
+pub mod Sound
+pub mod Demand
+pub mod StableReply
+pub mod Waiting
+pub mod Stack
+pub mod Examples
+pub mod Cases
+pub mod Faults

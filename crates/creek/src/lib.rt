@@ -1,0 +1,24 @@
+// The protocol over lists of requests: what a caller hands to invoke and what every call answers are types here, shared by the
+// definitions in `specs/` and by the code. The rest of the crate is definitions, and theorems about them in `proofs/`.
+pub mod mark;
+
+use request::Clock;
+use request::Number;
+use request::Operation;
+use request::Request;
+
+// What a caller asks for when a request is made.
+pub struct Invocation {
+    pub operation: Operation,
+    pub strong: bool,
+    pub clock: Clock,
+}
+
+// What a call answers: every field for every call, zeros where it has nothing to say.
+pub struct Answer {
+    pub refusal: u8,
+    pub request: Request,
+    pub number: Number,
+    pub response: u32,
+    pub mark: u8,
+}

@@ -1,0 +1,106 @@
+-- Laws of places: parts of two lists that agree; insertion in an order is insertion at a place, and the parts, the length and the
+-- counts of a list with an element inserted; what a test keeps.
+use Prim.Native.Nat.{ℕ, suc, zero, _+_, _-_, _≤_, _<_}
+use native.Mathlib.Omega.{arith}
+use native.Mathlib.Nat.{zero-add, suc-add, le-refl}
+use mathlib.Core.Path.{_≡_, refl, sym, ap, _∙_}
+use mathlib.Core.Bool.{Bool, true, false, not, cond}
+use mathlib.Core.List.{List, [], _∷_, _++_}
+use lib.ListN.{length, take, drop, getD, set, replicate}
+use lib.Seq.{take-take, drop-drop, slice-empty}
+use lib.Dec.{eqb}
+use borrow.Author.Tests.{eqb-true}
+use Rattle.lists.specs.Lists.{one, count, consIf, keep, insert}
+use Rattle.lists.specs.Places.{leading, insertAt}
+
+module _ {A : Type 0} where
+  -- ---- parts
+
+  -- two lists that agree from place n on agree from every later place on
+  pub drop-further : (n k : ℕ) (s t : List A) → n ≤ k → drop n s ≡ drop n t → drop k s ≡ drop k t
+  drop-further n k s t h e =
+      let sum : n + (k - n) ≡ k = omega arith in
+      rw (← sum) (sym (drop-drop (k - n) n s) ∙ ap (drop (k - n)) e ∙ drop-drop (k - n) n t)
+
+  -- ---- the place
+
+  pub leading-most : (p : A → Bool) (l : List A) → leading p l ≤ length l
+  leading-most p [] = omega arith
+  leading-most p (x ∷ xs) = go (p x) (leading-most p xs)
+    where
+      go : (b : Bool) → leading p xs ≤ length xs → cond b (suc (leading p xs)) 0 ≤ suc (length xs)
+      go true h = omega arith
+      go false h = omega arith
+
+  -- x in front of the first that it is before stands behind those at the front that it is not before
+  pub insert-place : (before : A → A → Bool) (x : A) (l : List A) → insert before x l ≡ insertAt (leading (λ y. not (before x y)) l) x l
+  unfolding insertAt
+  insert-place before x [] = refl
+  insert-place before x (y ∷ ys) = go (before x y) (insert-place before x ys)
+    where
+      go : (b : Bool) → insert before x ys ≡ insertAt (leading (λ y. not (before x y)) ys) x ys
+          → cond b (x ∷ y ∷ ys) (y ∷ insert before x ys) ≡ insertAt (cond (not b) (suc (leading (λ y. not (before x y)) ys)) 0) x (y ∷ ys)
+      go true h = refl
+      go false h = ap (λ (r : List A). y ∷ r) h
+
+  -- ---- a list with an element inserted
+
+  pub length-insertAt : (k : ℕ) (x : A) (l : List A) → length (insertAt k x l) ≡ length l + 1
+  unfolding insertAt
+  length-insertAt zero x l = omega arith
+  length-insertAt (suc k) x [] = omega arith
+  length-insertAt (suc k) x (y ∷ ys) = omega (arith, length-insertAt k x ys)
+
+  -- the part before the place is as it was, and the part from there on has the element at its own place
+  pub take-insertAt : (n j : ℕ) (x : A) (l : List A) → n ≤ length l → take n (insertAt (n + j) x l) ≡ take n l
+  unfolding insertAt
+  take-insertAt zero j x l h = refl
+  take-insertAt (suc n) j x [] h = absurd (omega arith)
+  take-insertAt (suc n) j x (y ∷ ys) h = rw suc-add (ap (λ (r : List A). y ∷ r) (take-insertAt n j x ys (omega arith)))
+
+  pub drop-insertAt : (n j : ℕ) (x : A) (l : List A) → n ≤ length l → drop n (insertAt (n + j) x l) ≡ insertAt j x (drop n l)
+  unfolding insertAt
+  drop-insertAt zero j x l h = rw zero-add
+  drop-insertAt (suc n) j x [] h = absurd (omega arith)
+  drop-insertAt (suc n) j x (y ∷ ys) h = rw suc-add (drop-insertAt n j x ys (omega arith))
+
+  pub count-insertAt : (p : A → Bool) (k : ℕ) (x : A) (l : List A) → count p (insertAt k x l) ≡ one (p x) + count p l
+  unfolding insertAt
+  count-insertAt p zero x l = refl
+  count-insertAt p (suc k) x [] = refl
+  count-insertAt p (suc k) x (y ∷ ys) = omega (arith, count-insertAt p k x ys)
+
+  -- storing x at place i and carrying what stood there one place on is an insertion of x at i
+  pub insertAt-carry : (l : List A) (i : ℕ) (x d : A) → i < length l → insertAt (suc i) (getD l i d) (set l i x) ≡ insertAt i x l
+  unfolding insertAt
+  insertAt-carry [] i x d h = absurd (omega arith)
+  insertAt-carry (y ∷ ys) zero x d h = refl
+  insertAt-carry (y ∷ ys) (suc i) x d h = ap (λ (r : List A). y ∷ r) (insertAt-carry ys i x d (omega arith))
+
+  -- an insertion behind the last of the first n
+  pub insertAt-end : (n : ℕ) (x : A) (l : List A) → insertAt n x (take n l) ≡ take n l ++ (x ∷ [])
+  unfolding insertAt
+  insertAt-end n x l = rw (take-take n n l (le-refl n), slice-empty n l)
+
+  -- ---- what a test keeps
+
+  pub length-keep : (p : A → Bool) (l : List A) → length (keep p l) ≡ count p l
+  length-keep p [] = refl
+  length-keep p (x ∷ xs) = go (p x) (length-keep p xs)
+    where
+      go : (b : Bool) → length (keep p xs) ≡ count p xs → length (consIf b x (keep p xs)) ≡ one b + count p xs
+      go true h = omega arith
+      go false h = omega arith
+
+-- what is kept of the places of n is n, as often as it stands there
+pub keep-equal : (n : ℕ) (l : List ℕ) → keep (eqb n) l ≡ replicate (count (eqb n) l) n
+keep-equal n [] = refl
+keep-equal n (x ∷ xs) = go (eqb n x) refl (keep-equal n xs)
+  where
+    go : (b : Bool) → eqb n x ≡ b → keep (eqb n) xs ≡ replicate (count (eqb n) xs) n
+        → consIf b x (keep (eqb n) xs) ≡ replicate (one b + count (eqb n) xs) n
+    go true e h =
+        let here : n ≡ x = eqb-true n x e in
+        let more : 1 + count (eqb n) xs ≡ suc (count (eqb n) xs) = omega arith in
+        rw (more, ← here) (ap (λ (r : List ℕ). n ∷ r) h)
+    go false e h = rw zero-add h

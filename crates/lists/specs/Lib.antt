@@ -1,0 +1,3 @@
+-- The definitions over lists, for the crates above.
+pub mod Lists
+pub mod Places

@@ -1,0 +1,1 @@
+// Lists as definitions and laws over any element type; there is no code here.

@@ -1,0 +1,122 @@
+-- Laws of the order after a settlement: its parts are the whole, two selections around a store make it, and what is committed and
+-- tentative then.
+use Prim.Native.Nat.{ℕ, _+_, _≤_}
+use native.Mathlib.Omega.{arith}
+use native.Mathlib.Numerals.{add-one}
+use mathlib.Core.Path.{_≡_, refl, sym, ap, _∙_}
+use mathlib.Core.Bool.{Bool, true, false, not, _&&_}
+use mathlib.Core.List.{List, [], _∷_, _++_, append-assoc}
+use lib.ListN.{length, take, drop, set, replicate, length-append}
+use lib.Seq.{slice, take-take, take-suc-set, drop-set-lt, take-at, drop-at, length-slice, length-take-le}
+use lib.Dec.{eqb}
+use borrow.Author.Tests.{eqb-true}
+use Rattle.lists.specs.Lists.{count, keep}
+use Rattle.lists.specs.Places.{All}
+use Rattle.lists.proofs.AllLaws.{all-of, all-append, all-keep}
+use Rattle.lists.proofs.ListLaws.{count-append, count-all, count-split}
+use Rattle.lists.proofs.MapLaws.{keep-agree}
+use Rattle.lists.proofs.PlaceLaws.{drop-further, keep-equal}
+use Rattle.slots.specs.Slots.{inWords}
+use Rattle.slots.specs.Settlement.{stays, onSide, Selected, settled, SettlementAsks, Settled}
+
+-- ---- the parts are the whole
+
+-- what holds of s and of every slot of the list holds of every slot afterwards
+pub all-settled : (P : ℕ → Type 0) (words : List ℕ) (s : ℕ) (l : List ℕ) → P s → All P l → All P (settled words s l)
+unfolding settled
+all-settled P words s l here h =
+    all-append P (keep (inWords words) l) (s ∷ keep (stays words s) l) (all-keep P (inWords words) l h)
+    (here, all-keep P (stays words s) l h)
+
+module _ (words : List ℕ) (s : ℕ) (l : List ℕ) (once : count (eqb s) l ≡ 1) (apart : inWords words s ≡ false) where
+  -- the test for s is that for s and not named
+  alone : (x : ℕ) → (eqb s x && not (inWords words x)) ≡ eqb s x
+  alone x = go (eqb s x) refl
+    where
+      go : (b : Bool) → eqb s x ≡ b → (b && not (inWords words x)) ≡ b
+      go true e = ap not (ap (inWords words) (sym (eqb-true s x e)) ∙ apart)
+      go false e = refl
+
+  -- those named, s itself and those that stay are the list in another order
+  pub count-settled : (p : ℕ → Bool) → count p (settled words s l) ≡ count p l
+  unfolding settled stays
+  count-settled p =
+      let here : keep (λ x. eqb s x && not (inWords words x)) l ≡ s ∷ [] =
+      keep-agree (λ x. eqb s x && not (inWords words x)) (eqb s) l (all-of alone l)
+      ∙ keep-equal s l ∙ ap (λ (k : ℕ). replicate k s) once in
+      omega (
+        arith,
+        count-append p (keep (inWords words) l) (s ∷ keep (stays words s) l),
+        ap (count p) here,
+        count-split p (inWords words) (eqb s) l,
+      )
+
+  pub length-settled : length (settled words s l) ≡ length l
+  length-settled = sym (count-all (settled words s l)) ∙ count-settled (λ x. true) ∙ count-all l
+
+  pub parts-fit : length (keep (inWords words) l) + 1 + length (keep (stays words s) l) ≡ length l
+  unfolding settled
+  parts-fit = omega (arith, length-settled, length-append (keep (inWords words) l) (s ∷ keep (stays words s) l))
+
+module _ (xs : List ℕ) (from to : ℕ) (words : List ℕ) (s : ℕ) (h : SettlementAsks xs from to words s) where
+  pub settlement-fits :
+      from + length (keep (inWords words) (slice from to xs)) + 1 + length (keep (stays words s) (slice from to xs)) ≡ to
+  settlement-fits =
+      omega (
+        arith,
+        h .part,
+        parts-fit words s (slice from to xs) (h .once) (h .apart),
+        length-slice from to xs (omega (arith, h .part)),
+      )
+
+  -- ---- a selection of those named, a store of s, and a selection of those that stay
+
+  module _ (zs : List ℕ) (own : ℕ) (named : Selected (onSide words s true) xs from xs from to zs own)
+      (ys : List ℕ) (end : ℕ) (staying : Selected (onSide words s false) (set zs own s) (own + 1) xs from to ys end) where
+    all-placed : end ≡ to
+    all-placed = omega (arith, named .count, staying .count, settlement-fits)
+
+    committed-front : take (own + 1) (set zs own s) ≡ (take from xs ++ keep (inWords words) (slice from to xs)) ++ (s ∷ [])
+    committed-front =
+        rw (add-one own, take-suc-set zs own s (omega (arith, h .part, named .long, named .count, settlement-fits)))
+        (ap (λ (r : List ℕ). r ++ (s ∷ [])) (named .first))
+
+    pub settled-by : Settled xs from to words s ys (own + 1)
+    unfolding settled
+    settled-by = record {
+      committed = omega (arith, named .count);
+      first = ap (λ (k : ℕ). take k ys) (sym all-placed) ∙ staying .first ∙ simp (committed-front, append-assoc);
+      rest =
+          ap (λ (k : ℕ). drop k ys) (sym all-placed) ∙ staying .rest ∙ ap (λ (k : ℕ). drop k (set zs own s)) all-placed
+          ∙ drop-set-lt to zs own s (omega (arith, named .count, settlement-fits))
+          ∙ drop-further own to zs xs (omega (arith, named .count, settlement-fits)) (named .rest);
+      long = staying .long;
+    }
+
+-- ---- after a settlement
+
+module _ (xs : List ℕ) (from to : ℕ) (words : List ℕ) (s : ℕ) (ys : List ℕ) (r : ℕ)
+    (h : SettlementAsks xs from to words s) (d : Settled xs from to words s ys r) where
+  -- what it was, those named in their order, and s itself
+  committed : List ℕ
+  committed = take from xs ++ (keep (inWords words) (slice from to xs) ++ (s ∷ []))
+
+  order-split : take to ys ≡ committed ++ keep (stays words s) (slice from to xs)
+  unfolding settled committed
+  order-split = d .first ∙ rw (append-assoc, append-assoc)
+
+  committed-length : length committed ≡ r
+  unfolding committed
+  committed-length = simp length-append (omega (arith, d .committed, length-take-le from xs (omega (arith, h .part))))
+
+  pub committed-inside : r ≤ to
+  committed-inside = omega (arith, d .committed, settlement-fits xs from to words s h)
+
+  -- the committed list afterwards
+  pub committed-settled : take r ys ≡ take from xs ++ (keep (inWords words) (slice from to xs) ++ (s ∷ []))
+  unfolding committed
+  committed-settled = sym (take-take r to ys committed-inside) ∙ ap (take r) order-split ∙ take-at committed _ r committed-length
+
+  -- the tentative list afterwards: those that stay
+  pub tentative-settled : slice r to ys ≡ keep (stays words s) (slice from to xs)
+  tentative-settled = ap (drop r) order-split ∙ drop-at committed (keep (stays words s) (slice from to xs)) r committed-length

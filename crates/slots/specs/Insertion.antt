@@ -1,0 +1,19 @@
+-- Insertion at a place of a list in an array.
+use Prim.Native.Nat.{ℕ, _+_, _<_, _≤_}
+use mathlib.Core.Path.{_≡_}
+use mathlib.Core.List.{List}
+use lib.ListN.{length, take, drop}
+use Rattle.lists.specs.Places.{insertAt}
+use Rattle.slots.specs.Slots.{mostSlots}
+
+-- what an insertion at place `at` of the first n asks: the place is among them or right behind, and the array has room
+pub record InsertionAsks (xs : List ℕ) (n at : ℕ) : Type 0 where
+  pub place : at ≤ n
+  pub room : n < mostSlots
+  pub long : length xs ≡ mostSlots
+
+-- xs became ys: s stands at place `at` of the first n, which are one more now; behind them nothing changed
+pub record Inserted (xs : List ℕ) (n at s : ℕ) (ys : List ℕ) : Type 0 where
+  pub first : take (n + 1) ys ≡ insertAt at s (take n xs)
+  pub rest : drop (n + 1) ys ≡ drop (n + 1) xs
+  pub long : length ys ≡ mostSlots

@@ -1,0 +1,4 @@
+-- The definitions that the contracts cite.
+pub mod Slots
+pub mod Insertion
+pub mod Settlement

@@ -1,0 +1,49 @@
+// The place of a request among tentative ones, and insertion at a place.
+use super::order;
+ghost use mathlib.Core.Path.{_≡_};
+ghost use mathlib.Core.Bool.{not};
+ghost use Prim.Native.Nat.{_+_};
+ghost use lib.Seq.{slice};
+ghost use Rattle.lists.specs.Places.{leading};
+ghost use Rattle.slots.specs.Slots.{OrderAsks, comesBefore};
+ghost use Rattle.slots.specs.Insertion.{InsertionAsks, Inserted};
+
+// The place of the request of that clock reading and slot among the places from..to of the order: behind those at the front that it
+// does not come before.
+pub fn place<'a>(
+    clocks: &'a [u32; 512],
+    order: &'a [u16; 512],
+    from: usize,
+    to: usize,
+    clock: u32,
+    slot: u16,
+) -> usize
+    requires { ⌜ OrderAsks (now clocks) (now order) from to ⌝ }
+    ensures { λ r. ⌜ r ≡ from + leading (λ t. not (comesBefore (now (clocks .entry)) clock slot t)) (slice from to (now (order .entry))) ⌝ }
+{
+    let mut at = from;
+    while at < to {
+        let t = order[at];
+        if order::comes_before(clocks, clock, slot, t) {
+            return at;
+        }
+        at += 1;
+    }
+    at
+}
+
+// Puts s at place `at` of the first n of xs; what stood there and behind it moves one place up.
+pub fn insert_at(xs: &mut [u16; 512], n: usize, at: usize, s: u16)
+    requires { ⌜ InsertionAsks (now xs) n at ⌝ }
+    ensures { λ _. ⌜ Inserted (now (xs .entry)) n at s (now (xs .exit)) ⌝ }
+{
+    let mut carried = s;
+    let mut i = at;
+    while i < n {
+        let x = xs[i];
+        xs[i] = carried;
+        carried = x;
+        i += 1;
+    }
+    xs[n] = carried;
+}
