@@ -1,0 +1,122 @@
+-- The state of a shift's first moment: it is the replica that fresh returns, and the invariant holds of it.
+use Prim.Native.Nat.{ℕ}
+use native.Mathlib.Omega.{arith}
+use mathlib.Core.Path.{_≡_, refl, sym, ap, _∙_}
+use mathlib.Core.Bool.{true, false, not, _&&_}
+use mathlib.Core.List.{List}
+use lib.ListN.{replicate, length-replicate}
+use lib.Dec.{leb, ltb}
+use borrow.Author.Tests.{le-leb, lt-ltb, leb-true, ltb-true, not-false}
+use Rattle.lists.specs.Lists.{one}
+use Rattle.lists.proofs.BoolLaws.{both, both-true, neither, neither-true, true-not-false}
+use Rattle.request.specs.declared.Context.{Context}
+use Rattle.request.specs.declared.PanelNo.{PanelNo}
+use Rattle.request.specs.Numbers.{mostPanels, clockReading}
+use Rattle.request.specs.Sets.{emptySet}
+use Rattle.request.specs.Refusal as refused
+use Rattle.request.proofs.SetLaws.{member-empty}
+use Rattle.registers.specs.declared.Saved.{Saved}
+use Rattle.registers.specs.Replay.{zeroBoard}
+use Rattle.registers.proofs.ReplayLaws.{replay-nothing}
+use Rattle.creek.specs.Plan.{lastEvent, lastClock}
+use Rattle.creek.specs.Book.{emptyBook}
+use Rattle.creek.specs.Calls.{badShop, replicaOf, fresh, freshRefusal}
+use Rattle.creek.specs.Sound.{mostRequests}
+use Rattle.creek.proofs.SoundLaws.{fresh-sound}
+use Rattle.replica.specs.declared.Body.{Body}
+use Rattle.replica.specs.declared.State.{State}
+use Rattle.replica.specs.Model.{planOf, bookOf, model, Inv, GoodShop, Empty, Fresh}
+
+abbrev pub emptyState : ℕ → PanelNo → Context → Body → List ℕ → Saved → State
+emptyState panels own none body board saved = record {
+  panels = panels;
+  own = own;
+  held = none;
+  known = none;
+  awaiting = none;
+  events = 0;
+  clock = clockReading 0;
+  clocks = replicate mostRequests 0;
+  bodies = replicate mostRequests body;
+  order = replicate mostRequests 0;
+  committed = 0;
+  ordered = 0;
+  stack = replicate mostRequests 0;
+  executed = 0;
+  stacked = 0;
+  registers = board;
+  saved = replicate mostRequests saved;
+  responses = replicate mostRequests 0;
+  commits = 0;
+  counters = record { undos = 0; executions = 0 };
+}
+
+-- ---- the test of fresh
+
+pub good-shop : (panels own : ℕ) → badShop panels own ≡ false → GoodShop panels own
+unfolding badShop
+good-shop panels own e =
+    let parts = neither-true (not (leb 1 panels && leb panels mostPanels)) (not (ltb own panels)) e in
+    record {
+      few = leb-true panels mostPanels (both-true (leb 1 panels) (leb panels mostPanels) (not-false _ (parts .0)) .1);
+      below = ltb-true own panels (not-false _ (parts .1));
+    }
+
+shop-good : (panels own : ℕ) → GoodShop panels own → badShop panels own ≡ false
+unfolding badShop
+shop-good panels own g =
+    neither (ap not (both (le-leb 1 panels (omega (arith, g))) (le-leb panels mostPanels (g .few)))) (ap not (lt-ltb own panels (g .below)))
+
+-- ---- the state
+
+module _ (panels : ℕ) (own : PanelNo) (body : Body) (saved : Saved) (good : GoodShop panels (own .0)) where
+  abbrev start : State
+  start = emptyState panels own emptySet body zeroBoard saved
+
+  start-model : model start ≡ fresh panels (own .0)
+  unfolding model bookOf planOf fresh
+  start-model = rw (shop-good panels (own .0) good)
+
+  start-inv : Inv start
+  unfolding planOf lastEvent lastClock
+  start-inv = record {
+    counts = record { committed = omega arith; ordered = omega arith; executed = omega arith; stacked = omega arith; done = omega arith };
+    lengths = record {
+      clocks = length-replicate {A = ℕ} mostRequests 0;
+      bodies = length-replicate mostRequests body;
+      order = length-replicate {A = ℕ} mostRequests 0;
+      stack = length-replicate {A = ℕ} mostRequests 0;
+      saved = length-replicate mostRequests saved;
+      responses = length-replicate {A = ℕ} mostRequests 0;
+      held = length-replicate {A = ℕ} mostPanels 0;
+      awaiting = length-replicate {A = ℕ} mostPanels 0;
+    };
+    held = λ slot h. sym (ap one (member-empty _));
+    order-slots = tt;
+    board-slots = tt;
+    log = record { replayed = sym replay-nothing; restores = λ k h. absurd (omega arith); replies = λ k h. absurd (omega arith) };
+    events = refl;
+    clock = refl;
+    awaiting-own = λ n h. true-not-false h (member-empty n);
+    sound = rw start-model (fresh-sound panels (own .0));
+  }
+
+  -- with the empty set and the zero board as they are computed
+  pub empty-made : (none : Context) (board : List ℕ) → none ≡ emptySet → board ≡ zeroBoard
+      → Empty panels (own .0) (emptyState panels own none body board saved)
+  empty-made none board e f = rw (e, f) record { state = start-model; invariant = start-inv }
+
+-- ---- fresh
+
+one-panel : fresh 1 0 ≡ replicaOf (emptyBook 1 0)
+unfolding fresh badShop
+one-panel = refl
+
+module _ (panels own : ℕ) (q : State) where
+  pub fresh-refused : badShop panels own ≡ true → Empty 1 0 q → Fresh panels own (record { refusal = refused.badShop; state = q })
+  unfolding freshRefusal fresh
+  fresh-refused bad e = record { refusal = rw bad; state = e .state ∙ one-panel ∙ rw bad; invariant = e .invariant }
+
+  pub fresh-opened : badShop panels own ≡ false → Empty panels own q → Fresh panels own (record { refusal = refused.accepted; state = q })
+  unfolding freshRefusal
+  fresh-opened good e = record { refusal = rw good; state = e .state; invariant = e .invariant }

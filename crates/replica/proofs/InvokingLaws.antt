@@ -1,0 +1,266 @@
+-- A request is made: its context by slots, and what an accepted invocation leads to.
+use Prim.Native.Nat.{ℕ, suc, _+_, _≤_, _<_}
+use native.Mathlib.Omega.{arith}
+use native.Mathlib.Numerals.{add-one}
+use mathlib.Core.Path.{_≡_, refl, sym, ap, _∙_}
+use mathlib.Core.Bool.{Bool, true, false, _||_, cond}
+use mathlib.Core.List.{List, [], _∷_, map}
+use lib.ListN.{length}
+use lib.Seq.{slice}
+use lib.Dec.{leb, ltb}
+use borrow.Author.Tests.{leb-false, lt-ltb, le-ltb, le-leb, lt-leb}
+use Rattle.lists.specs.Lists.{keep}
+use Rattle.lists.proofs.AllLaws.{all-weaken, all-drop}
+use Rattle.lists.proofs.MapLaws.{map-drop, keep-map, keep-agree}
+use Rattle.request.specs.declared.Clock.{Clock}
+use Rattle.request.specs.declared.Context.{Context}
+use Rattle.request.specs.declared.Number.{Number}
+use Rattle.request.specs.declared.PanelNo.{PanelNo}
+use Rattle.request.specs.declared.Request.{Request}
+use Rattle.request.specs.Numbers.{eventNo, sameNumber, mostPanels, mostEvents, GoodNumber, slotOf, numberOf, noNumber}
+use Rattle.request.specs.Operations.{badOperation}
+use Rattle.request.specs.Sets.{emptySet, member, join, leave}
+use Rattle.request.specs.Order.{before}
+use Rattle.request.specs.Refusal as refused
+use Rattle.request.proofs.NumberLaws.{sameNumber-sound}
+use Rattle.request.proofs.SetLaws.{member-join, join-length}
+use Rattle.slots.specs.Slots.{IsSlot, comesBefore, without as withoutSlots}
+use Rattle.slots.proofs.SlotLaws.{comes-before-order}
+use Rattle.creek.specs.declared.Invocation.{Invocation}
+use Rattle.creek.specs.declared.Answer.{Answer}
+use Rattle.creek.specs.Plan.{lastEvent, lastClock, entered, without, nextNumber, requestWith, later, made, invokeRefusal}
+use Rattle.creek.specs.Book.{invoke, refusal, accepted}
+use Rattle.creek.specs.Replies.{spread, refusedWith, namedByRefusal, acceptedAnswer, acceptedAwaiting}
+use Rattle.creek.specs.Calls.{accept}
+use Rattle.creek.proofs.PlanLaws.{passed, made-new}
+use Rattle.creek.proofs.LookupLaws.{lastEvent-made, lastClock-made}
+use Rattle.replica.specs.declared.Body.{Body}
+use Rattle.replica.specs.declared.State.{State}
+use Rattle.replica.specs.Model.{requestAt, orderSlots, planOf, bookOf, model, Inv, Kept}
+use Rattle.replica.specs.Entering.{Asked, contextFor, Enters, Represented, Entered}
+use Rattle.replica.proofs.EnteringRequests.{tentativeSlots}
+use Rattle.replica.proofs.EnteringStates.{plan-sound, new-enters, plan-entered, counts-stay, again}
+use Rattle.replica.proofs.KeptLaws.{kept-refused, kept-accepted}
+
+-- ---- the context
+
+-- a set without the numbers of requests at slots is the set without those slots
+without-at : (clocks : List ℕ) (bodies : List Body) (s : Context) (l : List ℕ)
+    → without s (map (requestAt clocks bodies) l) ≡ withoutSlots s l
+unfolding without withoutSlots requestAt
+without-at clocks bodies s [] = refl
+without-at clocks bodies s (t ∷ ts) = without-at clocks bodies (leave s (numberOf t)) ts
+
+-- the slots of the tentative requests that one of that clock reading and slot comes before
+abbrev laterSlots : State → ℕ → ℕ → List ℕ
+laterSlots p clock s = keep (comesBefore (p .clocks) clock s) (tentativeSlots p)
+
+-- the number of the next own request
+abbrev pub nextOwn : State → Number
+nextOwn p = record { panel = p .own; event = eventNo (p .events + 1) }
+
+-- the request asked for, with that context
+abbrev pub asRequest : State → Invocation → Context → Request
+asRequest p i context = record {
+  number = nextOwn p;
+  clock = i .clock;
+  operation = i .operation;
+  strong = i .strong;
+  context = context;
+}
+
+module _ (p : State) (inv : Inv p) (i : Invocation) (good : GoodNumber mostPanels (nextNumber (planOf p))) where
+  later-at : later (planOf p) i ≡ map (requestAt (p .clocks) (p .bodies)) (laterSlots p (i .clock .0) (slotOf (nextNumber (planOf p))))
+  unfolding planOf requestAt
+  later-at =
+      let x = requestWith (planOf p) i emptySet in
+      let at = requestAt (p .clocks) (p .bodies) in
+      let tentative = tentativeSlots p in
+      let slots = all-drop IsSlot (p .committed) (orderSlots p) (inv .order-slots) in
+      ap (keep (before x)) (sym (map-drop at (p .committed) (orderSlots p)))
+      ∙ keep-map at (before x) tentative
+      ∙ ap (map at) (keep-agree _ _ tentative
+      (all-weaken (λ t h. comes-before-order x (at t) (p .clocks) t good h refl refl) tentative slots))
+
+  context-at : without (p .known) (later (planOf p) i)
+      ≡ withoutSlots (p .known) (laterSlots p (i .clock .0) (slotOf (nextNumber (planOf p))))
+  context-at = ap (without (p .known)) later-at ∙ without-at (p .clocks) (p .bodies) (p .known) _
+
+-- ---- the state
+
+-- q, whose last own request had that event and clock reading, with those awaiting a reply
+abbrev pub asking : State → Context → ℕ → Clock → State
+asking q awaiting events clock = record {
+  panels = q .panels;
+  own = q .own;
+  held = q .held;
+  known = q .known;
+  awaiting = awaiting;
+  events = events;
+  clock = clock;
+  clocks = q .clocks;
+  bodies = q .bodies;
+  order = q .order;
+  committed = q .committed;
+  ordered = q .ordered;
+  stack = q .stack;
+  executed = q .executed;
+  stacked = q .stacked;
+  registers = q .registers;
+  saved = q .saved;
+  responses = q .responses;
+  commits = q .commits;
+  counters = q .counters;
+}
+
+asking-represented : (q : State) (awaiting : Context) (events : ℕ) (clock : Clock) → length (awaiting .words) ≡ mostPanels
+    → Represented q → Represented (asking q awaiting events clock)
+asking-represented q awaiting events clock words r = record {
+  counts = record {
+    committed = r .counts .committed;
+    ordered = r .counts .ordered;
+    executed = r .counts .executed;
+    stacked = r .counts .stacked;
+    done = r .counts .done;
+  };
+  lengths = record {
+    clocks = r .lengths .clocks;
+    bodies = r .lengths .bodies;
+    order = r .lengths .order;
+    stack = r .lengths .stack;
+    saved = r .lengths .saved;
+    responses = r .lengths .responses;
+    held = r .lengths .held;
+    awaiting = words;
+  };
+  held = r .held;
+  order-slots = r .order-slots;
+  board-slots = r .board-slots;
+  log = r .log;
+}
+
+asking-book : (q : State) (awaiting : Context) (events : ℕ) (clock : Clock) → bookOf (asking q awaiting events clock) ≡ bookOf q
+unfolding bookOf planOf
+asking-book q awaiting events clock = refl
+
+-- ---- the refusals, test by test
+
+module _ (clock events : ℕ) (i : Invocation) where
+  pub asked-operation : badOperation (i .operation) ≡ true → Asked clock events i refused.badOperation
+  unfolding invokeRefusal
+  asked-operation bad = record { word = λ a e f. rw bad }
+
+  module _ (good : badOperation (i .operation) ≡ false) where
+    pub asked-clock : i .clock .0 < clock → Asked clock events i refused.clockBack
+    unfolding invokeRefusal
+    asked-clock back = record { word = λ a e f. rw (good, e, lt-ltb (i .clock .0) clock back) }
+
+    module _ (on : clock ≤ i .clock .0) where
+      pub asked-full : mostEvents ≤ events → Asked clock events i refused.shiftFull
+      unfolding invokeRefusal
+      asked-full full = record { word = λ a e f. rw (good, e, le-ltb (i .clock .0) clock on, f, le-leb mostEvents events full) }
+
+      pub asked-passes : events < mostEvents → Asked clock events i refused.accepted
+      unfolding invokeRefusal
+      asked-passes left = record { word = λ a e f. rw (good, e, le-ltb (i .clock .0) clock on, f, lt-leb mostEvents events left) }
+
+-- ---- refused
+
+module _ (p : State) (i : Invocation) (inv : Inv p) (w : ℕ) (asked : Asked (p .clock .0) (p .events) i w) where
+  word-is : w ≡ invokeRefusal (planOf p) i
+  word-is = asked .word (planOf p) (sym (inv .clock)) (sym (inv .events))
+
+  pub kept-asked : (a : Answer) → (w ≡ refused.accepted → ⊥) → a ≡ refusedWith w noNumber
+      → Kept p (invoke i) (record { answer = a; state = p })
+  unfolding refusal namedByRefusal bookOf
+  kept-asked a refuses answers = kept-refused p (invoke i) w a inv (sym word-is) refuses answers
+
+  -- ---- accepted
+
+  module _ (passes : w ≡ refused.accepted) where
+    taken : invokeRefusal (planOf p) i ≡ refused.accepted
+    taken = sym word-is ∙ passes
+
+    -- there is an own event left
+    pub events-left : p .events < mostEvents
+    unfolding invokeRefusal
+    events-left =
+        let operation = passed (badOperation (i .operation)) refused.badOperation _ tt taken in
+        let clock = passed (ltb (i .clock .0) (lastClock (planOf p))) refused.clockBack _ tt (operation .1) in
+        let events = passed (leb mostEvents (lastEvent (planOf p))) refused.shiftFull refused.accepted tt (clock .1) in
+        omega (arith, inv .events, leb-false mostEvents (lastEvent (planOf p)) (events .0))
+
+    made-enters : Enters p (made (planOf p) i)
+    made-enters = new-enters p (made (planOf p) i) inv (made-new (planOf p) (plan-sound p inv) i taken)
+
+    next-good : GoodNumber mostPanels (nextNumber (planOf p))
+    unfolding made
+    next-good = made-enters .number
+
+    next-is : nextOwn p ≡ nextNumber (planOf p)
+    unfolding planOf
+    next-is =
+        let event : p .events + 1 ≡ suc (lastEvent (planOf p)) = add-one (p .events) ∙ ap suc (inv .events) in
+        λ j. record { panel = p .own; event = eventNo (event j) }
+
+    module _ (s : ℕ) (slot-is : s ≡ slotOf (nextOwn p)) (context : Context)
+        (context-is : context ≡ contextFor i (p .known) (p .clocks) s (tentativeSlots p)) where
+      context-made : context ≡ cond (i .strong) (without (p .known) (later (planOf p) i)) emptySet
+      context-made =
+          context-is
+          ∙ ap (λ (t : ℕ). contextFor i (p .known) (p .clocks) t (tentativeSlots p)) (slot-is ∙ ap slotOf next-is)
+          ∙ ap (λ (c : Context). cond (i .strong) c emptySet) (sym (context-at p inv i next-good))
+
+      request-made : asRequest p i context ≡ made (planOf p) i
+      unfolding made planOf
+      request-made = λ j. record {
+        number = next-is j;
+        clock = i .clock;
+        operation = i .operation;
+        strong = i .strong;
+        context = context-made j;
+      }
+
+      pub asked-enters : Enters p (asRequest p i context)
+      asked-enters = rw request-made made-enters
+
+      module _ (q : State) (e : Entered p (asRequest p i context) q) where
+        entered-made : Entered p (made (planOf p) i) q
+        entered-made = rw request-made at e
+
+        abbrev after : State
+        after = asking q (join (p .awaiting) (nextOwn p)) (p .events + 1) (i .clock)
+
+        made-model : model after ≡ accept (model p) (invoke i)
+        unfolding model accept accepted acceptedAwaiting bookOf made
+        made-model =
+            counts-stay p after _ _ (asking-book q _ _ _ ∙ entered-made .book) (ap (join (p .awaiting)) next-is) (e .commits) (e .counters)
+
+        awaiting-words : length ((join (p .awaiting) (nextOwn p)) .words) ≡ mostPanels
+        awaiting-words = join-length (p .awaiting) (nextOwn p) ∙ inv .lengths .awaiting
+
+        awaiting-own : (n : Number) → member (join (p .awaiting) (nextOwn p)) n ≡ true → n .panel .0 ≡ q .own .0
+        awaiting-own n h =
+            go (sameNumber (nextOwn p) n) refl
+            (sym (member-join (p .awaiting) (nextOwn p) n (inv .lengths .awaiting) (rw next-is next-good)) ∙ h)
+            ∙ ap (λ (o : PanelNo). o .0) (sym (e .own))
+          where
+            go : (b : Bool) → sameNumber (nextOwn p) n ≡ b → b || member (p .awaiting) n ≡ true → n .panel .0 ≡ p .own .0
+            go true f g = ap (λ (m : Number). m .panel .0) (sym (sameNumber-sound (nextOwn p) n f))
+            go false f g = inv .awaiting-own n g
+
+        after-plan : planOf after ≡ entered (planOf p) (made (planOf p) i)
+        unfolding planOf
+        after-plan = plan-entered p (made (planOf p) i) q entered-made
+
+        pub kept-made : (awaiting : Context) (a : Answer) → awaiting ≡ join (p .awaiting) (nextOwn p) → a ≡ spread (asRequest p i context)
+            → Kept p (invoke i) (record { answer = a; state = asking q awaiting (p .events + 1) (i .clock) })
+        unfolding refusal acceptedAnswer bookOf
+        kept-made awaiting a waits answers =
+            rw waits
+            (kept-accepted p after (invoke i) taken a inv (answers ∙ ap (λ (x : Request). spread x) request-made) made-model
+            (again after (entered (planOf p) (made (planOf p) i)) after-plan
+            (asking-represented q _ _ _ awaiting-words (e .represented))
+            (add-one (p .events) ∙ ap suc (inv .events) ∙ sym (lastEvent-made (planOf p) (plan-sound p inv) i taken))
+            (sym (lastClock-made (planOf p) (plan-sound p inv) i taken))
+            awaiting-own))

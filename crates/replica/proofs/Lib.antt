@@ -1,0 +1,23 @@
+-- The laws behind the calls: what they keep, how the map looks at the state, the log, and the files for each call.
+pub mod KeptLaws
+pub mod ModelLaws
+pub mod LogLaws
+pub mod FreshLaws
+pub mod BoundLaws
+pub mod UndoLaws
+pub mod PlaceLaws
+pub mod ExecuteLaws
+pub mod ShowingLaws
+pub mod OwnLaws
+pub mod DueLaws
+pub mod EnteringRequests
+pub mod EnteringLaws
+pub mod EnteringStates
+pub mod DeliveringLaws
+pub mod InvokingLaws
+pub mod SettlingListLaws
+pub mod SettlingHeldLaws
+pub mod SettlingRefusalLaws
+pub mod SettlingPlanLaws
+pub mod SettlingExecutionLaws
+pub mod SettlingLaws

@@ -1,0 +1,131 @@
+-- How the map looks at a state: the lengths of the standing order and of the board; the last request on the board and the next one to
+-- execute; what is to be rolled back and to be executed.
+use Prim.Native.Nat.{ℕ, suc, _-_, _≤_, _<_}
+use native.Mathlib.Omega.{arith}
+use mathlib.Core.Path.{_≡_, sym, ap, _∙_}
+use mathlib.Core.List.{List, [], _∷_, _++_, map-append, reverse, reverse-append}
+use lib.ListN.{length, take, drop, getD, length-map, length-drop, length-reverse, take-append-drop, List·getD-map}
+use lib.Seq.{take-suc, drop-cons, drop-append-le, drop-length, length-take-le, getD-take}
+use Rattle.lists.proofs.AllLaws.{all-at}
+use Rattle.lists.proofs.MapLaws.{map-drop}
+use Rattle.lists.specs.Lists.{count}
+use Rattle.request.specs.declared.Number.{Number}
+use Rattle.request.specs.declared.Request.{Request}
+use Rattle.slots.specs.Slots.{IsSlot}
+use Rattle.creek.specs.Plan.{order, hasNumber}
+use Rattle.creek.specs.Sound.{SoundPlan}
+use Rattle.replica.specs.declared.State.{State}
+use Rattle.replica.specs.Model.{requestAt, requestsAt, orderSlots, boardSlots, orderOf, boardOf, planOf, bookOf, model, Inv}
+
+-- the request at a slot of that state
+abbrev pub requestOf : State → ℕ → Request
+requestOf q slot = requestAt (q .clocks) (q .bodies) slot
+
+-- the slot on top of the board
+abbrev pub topSlot : State → ℕ
+topSlot q = getD (q .stack) (q .stacked - 1) 0
+
+-- the slot of the next request to execute
+abbrev pub nextSlot : State → ℕ
+nextSlot q = getD (q .order) (q .executed) 0
+
+-- the requests at the first n of those slots, and one more
+pub requests-more : (q : State) (slots : List ℕ) (n : ℕ) → n < length slots
+    → requestsAt q (take (suc n) slots) ≡ requestsAt q (take n slots) ++ requestOf q (getD slots n 0) ∷ []
+requests-more q slots n h =
+    ap (requestsAt q) (take-suc slots n 0 h)
+    ∙ map-append (requestOf q) (take n slots) (getD slots n 0 ∷ [])
+
+module _ (q : State) (inv : Inv q) where
+  pub plan-sound : SoundPlan (bookOf q .plan)
+  unfolding model
+  plan-sound = inv .sound .plan
+
+  pub length-order : length (orderOf q) ≡ q .ordered
+  length-order = length-map (orderSlots q) (requestOf q) ∙ length-take-le (q .ordered) (q .order) (omega (arith, inv .counts, inv .lengths))
+
+  pub length-board : length (boardOf q) ≡ q .stacked
+  length-board = length-map (boardSlots q) (requestOf q) ∙ length-take-le (q .stacked) (q .stack) (omega (arith, inv .counts, inv .lengths))
+
+  pub order-is : order (bookOf q .plan) ≡ orderOf q
+  unfolding bookOf planOf
+  order-is = take-append-drop (q .committed) (orderOf q)
+
+  -- the numbers in the standing order are distinct
+  pub order-distinct : (n : Number) → count (hasNumber n) (orderOf q) ≤ 1
+  order-distinct n = rw (ap (count (hasNumber n)) order-is) at (plan-sound .held .distinct n)
+
+  -- ---- steps due
+
+  pub rollback-length : length (bookOf q .execution .rollback) ≡ q .stacked - q .executed
+  unfolding bookOf
+  rollback-length = length-reverse (drop (q .executed) (boardOf q)) ∙ simp length-drop (omega (arith, length-board))
+
+  pub todo-length : length (bookOf q .execution .todo) ≡ q .ordered - q .executed
+  unfolding bookOf
+  todo-length = simp length-drop (omega (arith, length-order))
+
+  -- ---- the last request on the board
+
+  module _ (due : q .executed < q .stacked) where
+    pub top-slot : IsSlot (topSlot q)
+    top-slot =
+        let long = length-take-le (q .stacked) (q .stack) (omega (arith, inv .counts, inv .lengths)) in
+        rw (getD-take (q .stacked) (q .stack) (q .stacked - 1) 0 (omega arith)) at
+        (all-at IsSlot (boardSlots q) (q .stacked - 1) 0 (inv .board-slots) (omega arith))
+
+    -- what is on the board beneath the last
+    abbrev pub beneath : List Request
+    beneath = requestsAt q (take (q .stacked - 1) (q .stack))
+
+    pub board-last : boardOf q ≡ beneath ++ requestOf q (topSlot q) ∷ []
+    board-last =
+        let n : q .stacked ≡ suc (q .stacked - 1) = omega arith in
+        ap (λ (k : ℕ). requestsAt q (take k (q .stack))) n
+        ∙ requests-more q (q .stack) (q .stacked - 1) (omega (arith, inv .counts, inv .lengths))
+
+    pub beneath-length : length beneath ≡ q .stacked - 1
+    beneath-length =
+        length-map (take (q .stacked - 1) (q .stack)) (requestOf q)
+        ∙ length-take-le (q .stacked - 1) (q .stack) (omega (arith, inv .counts, inv .lengths))
+
+    pub rollback-first : bookOf q .execution .rollback ≡ requestOf q (topSlot q) ∷ reverse (drop (q .executed) beneath)
+    unfolding bookOf
+    rollback-first =
+        ap (λ (l : List Request). reverse (drop (q .executed) l)) board-last
+        ∙ ap reverse (drop-append-le (q .executed) beneath (requestOf q (topSlot q) ∷ []) (omega (arith, beneath-length)))
+        ∙ reverse-append (drop (q .executed) beneath) (requestOf q (topSlot q) ∷ [])
+
+  pub rollback-none : q .stacked ≡ q .executed → bookOf q .execution .rollback ≡ []
+  unfolding bookOf
+  rollback-none e =
+      ap (λ (k : ℕ). reverse (drop k (boardOf q))) (sym (length-board ∙ e)) ∙ ap reverse (drop-length (boardOf q))
+
+  -- ---- the next request to execute
+
+  pub order-slot : (k : ℕ) → k < q .ordered → IsSlot (getD (q .order) k 0)
+  order-slot k h =
+      let long = length-take-le (q .ordered) (q .order) (omega (arith, inv .counts, inv .lengths)) in
+      rw (getD-take (q .ordered) (q .order) k 0 h) at (all-at IsSlot (orderSlots q) k 0 (inv .order-slots) (omega arith))
+
+  module _ (more : q .executed < q .ordered) where
+    pub next-slot : IsSlot (nextSlot q)
+    next-slot = order-slot (q .executed) more
+
+    pub todo-first : bookOf q .execution .todo ≡ requestOf q (nextSlot q) ∷ drop (suc (q .executed)) (orderOf q)
+    unfolding bookOf
+    todo-first =
+        let long = length-take-le (q .ordered) (q .order) (omega (arith, inv .counts, inv .lengths)) in
+        sym (map-drop (requestOf q) (q .executed) (orderSlots q))
+        ∙ ap (requestsAt q) (drop-cons (orderSlots q) (q .executed) 0 (omega arith))
+        ∙ rw (getD-take (q .ordered) (q .order) (q .executed) 0 more, map-drop (requestOf q) (suc (q .executed)) (orderSlots q))
+
+    -- it stands at its place of the standing order
+    pub order-next : getD (orderOf q) (q .executed) (requestOf q 0) ≡ requestOf q (nextSlot q)
+    order-next =
+        List·getD-map (requestOf q) (orderSlots q) (q .executed) 0
+        ∙ ap (requestOf q) (getD-take (q .ordered) (q .order) (q .executed) 0 more)
+
+  pub todo-none : q .executed ≡ q .ordered → bookOf q .execution .todo ≡ []
+  unfolding bookOf
+  todo-none e = ap (λ (k : ℕ). drop k (orderOf q)) (e ∙ sym length-order) ∙ drop-length (orderOf q)

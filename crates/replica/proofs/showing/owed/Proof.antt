@@ -1,0 +1,20 @@
+-- `showing::owed` meets its contract.
+use borrow.Author.Needs.{needs}
+use Rattle.replica.proofs.ShowingLaws.{owed-are}
+use Rattle.replica.proofs.showing.owed.Statement.{statement}
+use Rattle.replica.proofs.showing.owed.Tie as tie
+
+sub-result : tie.Need-sub-result
+sub-result c = search needs
+
+sub-result-2 : tie.Need-sub-result-2
+sub-result-2 c = search needs
+
+add-result : tie.Need-add-result
+add-result c = search needs
+
+returns : tie.Need-returns
+returns c = owed-are _ (c .before .before .pre)
+
+pub owed-spec : {M : Type 1} → statement M
+owed-spec = tie.close (tie.spec sub-result sub-result-2 add-result returns)

@@ -1,0 +1,10 @@
+-- `showing::requests` meets its contract.
+use Rattle.replica.proofs.ShowingLaws.{requests-are}
+use Rattle.replica.proofs.showing.requests.Statement.{statement}
+use Rattle.replica.proofs.showing.requests.Tie as tie
+
+returns : tie.Need-returns
+returns c = requests-are _ (c .pre)
+
+pub requests-spec : {M : Type 1} → statement M
+requests-spec = tie.close (tie.spec returns)

@@ -1,0 +1,183 @@
+-- The state as a replica of `creek`: the map, the invariant that fresh establishes and every call keeps, and what a call promises.
+use Prim.Native.Nat.{ℕ, _+_, _≤_, _<_}
+use mathlib.Core.Path.{_≡_}
+use mathlib.Core.Bool.{Bool, true, false}
+use mathlib.Core.List.{List, [], map}
+use lib.ListN.{length, take, drop, getD}
+use lib.Dec.{eqb}
+use Rattle.request.specs.declared.Context.{Context}
+use Rattle.request.specs.declared.Number.{Number}
+use Rattle.request.specs.declared.Operation.{Operation}
+use Rattle.request.specs.declared.Request.{Request}
+use Rattle.request.specs.Numbers.{mostPanels, numberOf, clockReading}
+use Rattle.request.specs.Sets.{member}
+use Rattle.request.specs.Refusal as refused
+use Rattle.registers.specs.declared.Saved.{Saved}
+use Rattle.registers.specs.Effect.{response}
+use Rattle.registers.specs.Rollback.{savedOf}
+use Rattle.registers.specs.Replay.{replay}
+use Rattle.lists.specs.Lists.{one, count}
+use Rattle.lists.specs.Places.{All}
+use Rattle.slots.specs.Slots.{IsSlot}
+use Rattle.creek.specs.Plan.{Plan, lastEvent, lastClock}
+use Rattle.creek.specs.Book.{Call, Book, isAccepted}
+use Rattle.creek.specs.Execution.{operations}
+use Rattle.creek.specs.Stack.{stacked}
+use Rattle.creek.specs.Calls.{Replica, fresh, freshRefusal, step, answer}
+use Rattle.creek.specs.Sound.{Sound, mostRequests}
+use Rattle.replica.specs.declared.Body.{Body}
+use Rattle.replica.specs.declared.Counters.{Counters}
+use Rattle.replica.specs.declared.State.{State}
+use Rattle.replica.specs.declared.Opened.{Opened}
+use Rattle.replica.specs.declared.Called.{Called}
+
+-- ---- requests at slots
+
+-- what an array of bodies has past its end
+abbrev pub noBody : Body
+noBody = record { operation = record { code = 0; r = 0; q = 0; amount = 0 }; strong = false; context = record { words = [] } }
+
+abbrev pub bodyAt : List Body → ℕ → Body
+bodyAt bodies slot = getD bodies slot noBody
+
+-- the request at a slot
+unfoldable pub requestAt : List ℕ → List Body → ℕ → Request
+requestAt clocks bodies slot = record {
+  number = numberOf slot;
+  clock = clockReading (getD clocks slot 0);
+  operation = bodyAt bodies slot .operation;
+  strong = bodyAt bodies slot .strong;
+  context = bodyAt bodies slot .context;
+}
+
+-- the requests at those slots
+abbrev pub requestsAt : State → List ℕ → List Request
+requestsAt q slots = map (requestAt (q .clocks) (q .bodies)) slots
+
+-- ---- the map
+
+-- the slots of the standing order
+abbrev pub orderSlots : State → List ℕ
+orderSlots q = take (q .ordered) (q .order)
+
+-- the slots of the requests on the board
+abbrev pub boardSlots : State → List ℕ
+boardSlots q = take (q .stacked) (q .stack)
+
+-- the standing order
+abbrev pub orderOf : State → List Request
+orderOf q = requestsAt q (orderSlots q)
+
+-- the requests on the board
+abbrev pub boardOf : State → List Request
+boardOf q = requestsAt q (boardSlots q)
+
+unfoldable pub planOf : State → Plan
+planOf q = record {
+  panels = q .panels;
+  own = q .own .0;
+  known = q .known;
+  committed = take (q .committed) (orderOf q);
+  tentative = drop (q .committed) (orderOf q);
+}
+
+unfoldable pub bookOf : State → Book
+bookOf q = record { plan = planOf q; execution = stacked (boardOf q) (q .executed) (orderOf q) }
+
+unfoldable pub model : State → Replica
+model q = record {
+  book = bookOf q;
+  awaiting = q .awaiting;
+  commits = q .commits;
+  counters = record { undos = q .counters .undos; executions = q .counters .executions };
+}
+
+-- ---- the invariant
+
+-- the operation of the request at place k on a board
+abbrev pub operationAt : List Request → ℕ → Operation
+operationAt board k = getD (operations board) k (record { code = 0; r = 0; q = 0; amount = 0 })
+
+-- the registers before the request at place k on a board was executed
+abbrev pub registersBefore : List Request → ℕ → List ℕ
+registersBefore board k = replay (operations (take k board))
+
+-- what an array of saved values has past its end
+abbrev pub noSaved : Saved
+noSaved = record { r = 0; q = 0 }
+
+-- the counts lie within their arrays
+pub record Counts (q : State) : Type 0 where
+  pub committed : q .committed ≤ q .ordered
+  pub ordered : q .ordered ≤ mostRequests
+  pub executed : q .executed ≤ q .stacked
+  pub stacked : q .stacked ≤ mostRequests
+  pub done : q .executed ≤ q .ordered
+
+-- each array is as long as its type says
+pub record Lengths (q : State) : Type 0 where
+  pub clocks : length (q .clocks) ≡ mostRequests
+  pub bodies : length (q .bodies) ≡ mostRequests
+  pub order : length (q .order) ≡ mostRequests
+  pub stack : length (q .stack) ≡ mostRequests
+  pub saved : length (q .saved) ≡ mostRequests
+  pub responses : length (q .responses) ≡ mostRequests
+  pub held : length (q .held .words) ≡ mostPanels
+  pub awaiting : length (q .awaiting .words) ≡ mostPanels
+
+-- the registers, and by place on the board what is kept to roll back and to reply
+pub record Log (board : List Request) (registers : List ℕ) (saved : List Saved) (responses : List ℕ) : Type 0 where
+  pub replayed : registers ≡ replay (operations board)
+  pub restores : (k : ℕ) → k < length board → getD saved k noSaved ≡ savedOf (operationAt board k) (registersBefore board k)
+  pub replies : (k : ℕ) → k < length board → getD responses k 0 ≡ response (operationAt board k) (registersBefore board k)
+
+-- what a call may suppose of a state: that it came from fresh and the calls
+pub record Inv (q : State) : Type 0 where
+  pub counts : Counts q
+  pub lengths : Lengths q
+  -- the set of numbers held has those of the standing order
+  pub held : (slot : ℕ) → IsSlot slot → count (eqb slot) (orderSlots q) ≡ one (member (q .held) (numberOf slot))
+  -- in the standing order and on the board stand slots
+  pub order-slots : All IsSlot (orderSlots q)
+  pub board-slots : All IsSlot (boardSlots q)
+  pub log : Log (boardOf q) (q .registers) (q .saved) (q .responses)
+  -- the own requests so far
+  pub events : q .events ≡ lastEvent (planOf q)
+  pub clock : q .clock .0 ≡ lastClock (planOf q)
+  -- only own requests await a reply
+  pub awaiting-own : (n : Number) → member (q .awaiting) n ≡ true → n .panel .0 ≡ q .own .0
+  pub sound : Sound (model q)
+
+-- ---- what fresh and the calls promise
+
+pub record GoodShop (panels own : ℕ) : Type 0 where
+  pub few : panels ≤ mostPanels
+  pub below : own < panels
+
+-- q is the state of a shift's first moment in that shop
+pub record Empty (panels own : ℕ) (q : State) : Type 0 where
+  pub state : model q ≡ fresh panels own
+  pub invariant : Inv q
+
+pub record Fresh (panels own : ℕ) (r : Opened) : Type 0 where
+  pub refusal : r .refusal ≡ freshRefusal panels own
+  pub state : model (r .state) ≡ fresh panels own
+  pub invariant : Inv (r .state)
+
+-- a call on p, answered and carried out as `creek` says
+pub record Kept (p : State) (c : Call) (r : Called) : Type 0 where
+  -- the answer outright, every field, refused or not
+  pub answer : r .answer ≡ answer (model p) c
+  -- the state outright
+  pub state : model (r .state) ≡ step (model p) c
+  -- a refused call returns the very state that it was given
+  pub unchanged : isAccepted (bookOf p) c ≡ false → r .state ≡ p
+  pub invariant : Inv (r .state)
+
+-- ---- the step counters
+
+abbrev pub undoCounted : Counters → Counters
+undoCounted c = record { undos = c .undos + 1; executions = c .executions }
+
+abbrev pub executionCounted : Counters → Counters
+executionCounted c = record { undos = c .undos; executions = c .executions + 1 }

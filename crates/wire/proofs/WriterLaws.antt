@@ -1,0 +1,114 @@
+-- What the writer's definitions give, case by case, and the bytes of a message from its parts.
+use Prim.Native.Nat.{ℕ, _+_, _≤_, _<_}
+use mathlib.Core.Path.{_≡_, refl, sym, ap, _∙_}
+use mathlib.Core.Bool.{Bool, true, false, cond}
+use mathlib.Core.List.{List, [], _∷_, _++_}
+use native.Mathlib.Nat.{zero-add}
+use native.Mathlib.Omega.{arith}
+use lib.ListN.{length, drop}
+use lib.Seq.{sets, sets-eq}
+use borrow.Author.Tests.{lt-ltb, le-ltb}
+use Rattle.request.specs.Refusal as refusal
+use Rattle.wire.specs.declared.Message.{Message}
+use Rattle.wire.specs.declared.Kind.{Kind}
+use Rattle.wire.specs.declared.Kind.the-variants.{Weak, Strong, Settlement}
+use Rattle.wire.specs.Layout.{kindNumber, headWidths, numberWidths, bodyWidths, contextWidths, layout, size, sizeOf, encode}
+use Rattle.wire.specs.Message.{BusMessage, kindOf, numberFields, bodyFields, contents, fieldsOf, bytesOf}
+use Rattle.wire.specs.Message.{weakWithContext, Fits, said}
+use Rattle.wire.specs.Reader.{headSize}
+use Rattle.wire.specs.Writer.{writeRefusal, writeAnswer, afterWrite}
+use Rattle.wire.proofs.MessageLaws.{fieldsBy, bytes-by}
+use Rattle.wire.proofs.HeldLaws.{said-settlement, said-request, kind-said}
+use Rattle.wire.proofs.LayoutLaws.{length-encode, length-within, fields-then}
+
+-- a message has as many bytes as its kind says
+pub length-bytes : (m : BusMessage) → Fits m → length (bytesOf m) ≡ sizeOf (kindOf m)
+unfolding bytesOf sizeOf
+length-bytes m h = length-encode (layout (kindOf m)) (fieldsOf m) (length-within (layout (kindOf m)) (fieldsOf m) (h .fields))
+
+-- ---- the writer, case by case
+
+module _ (m : BusMessage) (out : List ℕ) where
+  pub context-refused : weakWithContext m ≡ true
+      → (writeAnswer m (length out) ≡ record { refusal = refusal.badContext; bytes = 0 }) × (afterWrite m out ≡ out)
+  unfolding writeAnswer afterWrite writeRefusal
+  context-refused e = (rw e, rw e)
+
+  module _ (e : weakWithContext m ≡ false) where
+    pub room-refused : length out < sizeOf (kindOf m)
+        → (writeAnswer m (length out) ≡ record { refusal = refusal.noRoom; bytes = 0 }) × (afterWrite m out ≡ out)
+    unfolding writeAnswer afterWrite writeRefusal
+    room-refused h = (simp (e, lt-ltb _ _ h), simp (e, lt-ltb _ _ h))
+
+    pub written : sizeOf (kindOf m) ≤ length out
+        → (writeAnswer m (length out) ≡ record { refusal = refusal.accepted; bytes = sizeOf (kindOf m) })
+        × (afterWrite m out ≡ bytesOf m ++ drop (sizeOf (kindOf m)) out)
+    unfolding writeAnswer afterWrite writeRefusal
+    written h = (simp (e, le-ltb _ _ h), simp (e, le-ltb _ _ h))
+
+-- what is accepted is no weak request with a context
+pub accepted-sendable : (m : BusMessage) (room : ℕ) → writeRefusal m room ≡ refusal.accepted → weakWithContext m ≡ false
+unfolding writeRefusal
+accepted-sendable m room ok = go (weakWithContext m) _ ok
+  where
+    go : (t : Bool) (rest : ℕ) → cond t refusal.badContext rest ≡ refusal.accepted → t ≡ false
+    go true rest e = absurd (omega arith)
+    go false rest e = refl
+
+-- the bytes put at the front
+pub bytes-put : (m : BusMessage) (out : List ℕ) → Fits m → sizeOf (kindOf m) ≤ length out
+    → sets out 0 (bytesOf m) ≡ bytesOf m ++ drop (sizeOf (kindOf m)) out
+bytes-put m out fits h =
+    let l = length-bytes m fits in
+    sets-eq (bytesOf m) out 0 (omega arith) ∙ rw (l, zero-add)
+
+-- ---- the bytes of a message from its parts
+
+abbrev headFields : Kind → List ℕ
+headFields k = sizeOf k ∷ kindNumber k ∷ []
+
+-- of the message that m holds, whose kind is k, length and kind are written, and then panel and event
+module _ (m : Message) (k : Kind) (known : k ≡ kindOf (said m)) (out out₁ out₂ : List ℕ)
+    (head : out₁ ≡ sets out 0 (encode headWidths (headFields k)))
+    (number : out₂ ≡ sets out₁ headSize (encode numberWidths (numberFields (m .request .number))))
+  where
+    head-of : (k′ : Kind) → k ≡ k′ → out₁ ≡ sets out 0 (encode headWidths (headFields k′))
+    head-of k′ e = head ∙ ap (λ (j : Kind). sets out 0 (encode headWidths (headFields j))) e
+
+    -- that is a settlement
+    pub settlement-put : m .settles ≡ true → out₂ ≡ sets out 0 (bytesOf (said m))
+    unfolding bytesOf kindOf layout fieldsOf contents size
+    settlement-put e =
+        let is = said-settlement m e in
+        fields-then out out₁ out₂ 0 headWidths _ numberWidths _ refl (head-of Settlement (known ∙ ap kindOf is)) number
+        ∙ ap (λ (b : BusMessage). sets out 0 (bytesOf b)) (sym is)
+
+    -- with the body, a weak request
+    module _ (asks : m .settles ≡ false) (out₃ : List ℕ)
+        (body : out₃ ≡ sets out₂ (sizeOf Settlement) (encode bodyWidths (bodyFields (m .request))))
+      where
+        bytes-are : (b : Bool) → m .request .strong ≡ b
+            → sets out 0 (encode (layout (cond b Strong Weak)) (fieldsBy (m .request) b)) ≡ sets out 0 (bytesOf (said m))
+        bytes-are b e =
+            sym (ap (λ (x : BusMessage). sets out 0 (bytesOf x)) (said-request m asks)
+            ∙ ap (λ (l : List ℕ). sets out 0 l) (bytes-by (m .request) b e))
+
+        pub weak-put : m .request .strong ≡ false → out₃ ≡ sets out 0 (bytesOf (said m))
+        unfolding layout size sizeOf
+        weak-put e =
+            fields-then out out₁ out₃ 0 headWidths _ (numberWidths ++ bodyWidths) _ refl
+            (head-of Weak (kind-said m k known asks false e))
+            (fields-then out₁ out₂ out₃ headSize numberWidths _ bodyWidths _ refl number body)
+            ∙ bytes-are false e
+
+        -- with the context, a strong one
+        pub strong-put : m .request .strong ≡ true → (out₄ : List ℕ)
+            → out₄ ≡ sets out₃ (sizeOf Weak) (encode contextWidths (m .request .context .words))
+            → out₄ ≡ sets out 0 (bytesOf (said m))
+        unfolding layout size sizeOf
+        strong-put e out₄ context =
+            fields-then out out₁ out₄ 0 headWidths _ (numberWidths ++ bodyWidths ++ contextWidths) _ refl
+            (head-of Strong (kind-said m k known asks true e))
+            (fields-then out₁ out₂ out₄ headSize numberWidths _ (bodyWidths ++ contextWidths) _ refl number
+            (fields-then out₂ out₃ out₄ (sizeOf Settlement) bodyWidths _ contextWidths _ refl body context))
+            ∙ bytes-are true e

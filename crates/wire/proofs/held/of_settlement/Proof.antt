@@ -1,0 +1,14 @@
+-- `held::of_settlement` meets its contract.
+use Rattle.wire.specs.Message.{held}
+use Rattle.wire.proofs.held.of_settlement.Statement.{statement}
+use Rattle.wire.proofs.held.of_settlement.Tie as tie
+
+bare-request-requires : tie.Need-bare-request-requires
+bare-request-requires c κs = tt
+
+returns : tie.Need-returns
+unfolding held
+returns c = rw (c .bare-request .ensures)
+
+pub of-settlement-spec : {M : Type 1} → statement M
+of-settlement-spec = tie.close (tie.spec bare-request-requires returns)

@@ -1,0 +1,88 @@
+-- `writer::put_context` meets its contract: writing the words from the p-th on equals writing them all.
+use mathlib.Core.List.{List}
+use Prim.Native.Nat.{ℕ, _+_, _-_, _*_, _≤_}
+use mathlib.Core.Path.{_≡_, refl, ap, _∙_}
+use native.Mathlib.Omega.{arith}
+use borrow.Author.Needs.{needs}
+use lib.ListN.{length, drop}
+use lib.Seq.{sets}
+use Rattle.request.specs.Numbers.{mostPanels}
+use Rattle.wire.specs.declared.Kind.the-variants.{Weak}
+use Rattle.wire.specs.Layout.{wordWidth, contextWidths, layout, size, sizeOf, encode}
+use Rattle.wire.proofs.LayoutLaws.{wordsFrom, word-put}
+use Rattle.wire.proofs.writer.put_context.Statement.{statement}
+use Rattle.wire.proofs.writer.put_context.Tie as tie
+
+abbrev Inv-loop : tie.InvT-loop
+Inv-loop out₀ context to₀ p₀ out to p =
+    (p ≤ mostPanels)
+    × (to ≡ sizeOf Weak + wordWidth * p)
+    × (length out ≡ length out₀)
+    × (sets out to (encode (wordsFrom p) (drop p (context .words))) ≡ sets out₀ (sizeOf Weak) (encode contextWidths (context .words)))
+
+abbrev μ-loop : tie.MeasureT-loop
+μ-loop out₀ context to₀ p₀ out to p = mostPanels - p
+
+loop-holds : tie.Need-loop-holds Inv-loop μ-loop
+unfolding sizeOf layout size
+loop-holds c = (omega arith, omega arith, refl, refl)
+
+mul-put-integer : tie.Need-mul-put-integer Inv-loop μ-loop
+mul-put-integer c = omega arith
+
+element-copy-out-put-integer : tie.Need-element-copy-out-put-integer Inv-loop μ-loop
+element-copy-out-put-integer c = omega arith
+
+put-integer-requires : tie.Need-put-integer-requires Inv-loop μ-loop
+unfolding sizeOf layout size
+put-integer-requires c κs = omega arith
+
+add-to : tie.Need-add-to Inv-loop μ-loop
+unfolding sizeOf layout size
+add-to c = omega arith
+
+add-p : tie.Need-add-p Inv-loop μ-loop
+add-p c = omega arith
+
+loop-less : tie.Need-loop-less Inv-loop μ-loop
+loop-less c = omega arith
+
+loop-again : tie.Need-loop-again Inv-loop μ-loop
+loop-again c =
+    let put = c .before .before .put-integer in
+    let l = c .before .before .before .before .before .before .loop in
+    let a = c .before .before .before .before .before .before .before .before .args in
+    let words : length (a .t2 .words) ≡ mostPanels = search needs in (
+      omega arith,
+      omega arith,
+      put .kept .0 ∙ l .inv .2,
+      ap (λ (o : List ℕ). sets o (l .to + wordWidth) (encode (wordsFrom (l .p + 1)) (drop (l .p + 1) (a .t2 .words)))) (put .ensures)
+          ∙ word-put (l .p) (omega arith) (l .out) (a .t2 .words) (l .to) (omega arith)
+          ∙ l .inv .3,
+    )
+
+same-length : tie.Need-same-length Inv-loop μ-loop
+same-length c = search needs
+
+returns : tie.Need-returns Inv-loop μ-loop
+unfolding encode
+returns c =
+    let none : mostPanels - c .before .loop .p ≡ 0 = omega arith in
+    rw none at (c .before .loop .inv .3)
+
+pub put-context-spec : {M : Type 1} → statement M
+put-context-spec =
+    tie.close
+    (tie.spec
+    Inv-loop
+    μ-loop
+    loop-holds
+    mul-put-integer
+    element-copy-out-put-integer
+    put-integer-requires
+    add-to
+    add-p
+    loop-less
+    loop-again
+    same-length
+    returns)

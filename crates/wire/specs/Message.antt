@@ -1,0 +1,128 @@
+-- Bus messages, the fields they have, and the form in which the code holds them.
+use Prim.Native.Nat.{ℕ}
+use mathlib.Core.Bool.{Bool, true, false, not, _&&_, cond}
+use mathlib.Core.List.{List, [], _∷_, _++_}
+use lib.ListN.{getD, drop}
+use Rattle.request.specs.declared.Number.{Number}
+use Rattle.request.specs.declared.Context.{Context}
+use Rattle.request.specs.declared.Request.{Request}
+use Rattle.request.specs.Numbers.{numbered, noNumber}
+use Rattle.request.specs.Sets.{emptySet, setOf, isEmpty, Words}
+use Rattle.wire.specs.declared.Message.{Message}
+use Rattle.wire.specs.declared.Kind.{Kind}
+use Rattle.wire.specs.declared.Kind.the-variants.{Weak, Strong, Settlement}
+use Rattle.wire.specs.Layout.{kindNumber, layout, encode, sizeOf, Within}
+use Rattle.wire.specs.Layout.{panelField, eventField, clockField, codeField, rField, qField, amountField, contextField}
+
+-- a bus message: a request, weak or strong, or the settlement of a number
+pub data BusMessage : Type 0 where
+  request : Request → BusMessage
+  settlement : Number → BusMessage
+
+-- the kind of a message
+unfoldable pub kindOf : BusMessage → Kind
+kindOf (request r) = cond (r .strong) Strong Weak
+kindOf (settlement n) = Settlement
+
+-- ---- the fields of a message, in the order of its layout
+
+-- the spare byte
+abbrev pub spareByte : ℕ
+spareByte = 0
+
+-- panel, event
+abbrev pub numberFields : Number → List ℕ
+numberFields n = n .panel .0 ∷ n .event .0 ∷ []
+
+-- clock, code, r, q, spare, amount
+abbrev pub bodyFields : Request → List ℕ
+bodyFields r =
+    r .clock .0 ∷ r .operation .code ∷ r .operation .r ∷ r .operation .q ∷ spareByte ∷ r .operation .amount ∷ []
+
+-- the words of a strong request's context
+abbrev pub contextFields : Request → List ℕ
+contextFields r = cond (r .strong) (r .context .words) []
+
+-- what stands after the first four bytes
+unfoldable pub contents : BusMessage → List ℕ
+contents (request r) = numberFields (r .number) ++ bodyFields r ++ contextFields r
+contents (settlement n) = numberFields n
+
+-- all fields, length and kind first
+unfoldable pub fieldsOf : BusMessage → List ℕ
+fieldsOf m = sizeOf (kindOf m) ∷ kindNumber (kindOf m) ∷ contents m
+
+-- the bytes of a message
+unfoldable pub bytesOf : BusMessage → List ℕ
+bytesOf m = encode (layout (kindOf m)) (fieldsOf m)
+
+-- ---- the message with given fields
+
+-- the number
+abbrev pub numberFrom : List ℕ → Number
+numberFrom f = numbered (getD f panelField 0) (getD f eventField 0)
+
+-- the request, given its strength and its context
+abbrev pub requestFrom : List ℕ → Bool → Context → Request
+requestFrom f strong context =
+    record {
+      number = numberFrom f;
+      clock = record { 0 = getD f clockField 0 };
+      operation = record {
+        code = getD f codeField 0;
+        r = getD f rField 0;
+        q = getD f qField 0;
+        amount = getD f amountField 0;
+      };
+      strong = strong;
+      context = context;
+    }
+
+-- the message of a kind with these fields; a weak request's context is empty, and a settlement has a number and nothing else
+unfoldable pub messageFrom : Kind → List ℕ → BusMessage
+messageFrom Weak f = request (requestFrom f false emptySet)
+messageFrom Strong f = request (requestFrom f true (setOf (drop contextField f)))
+messageFrom Settlement f = settlement (numberFrom f)
+
+-- ---- messages that can be sent
+
+-- weak with a context (refusal 21)
+unfoldable pub weakWithContext : BusMessage → Bool
+weakWithContext (request r) = not (r .strong) && not (isEmpty (r .context))
+weakWithContext (settlement n) = false
+
+-- a request's context has a word for each panel
+abbrev pub ContextWords : BusMessage → Type 0
+ContextWords (request r) = Words (r .context)
+ContextWords (settlement n) = Unit {0}
+
+-- no field held is wider than in its message
+pub record Fits (m : BusMessage) : Type 0 where
+  pub fields : Within (layout (kindOf m)) (fieldsOf m)
+  pub words : ContextWords m
+
+-- ---- as the code holds them
+
+-- a request of which only the number stands for something
+unfoldable pub bare : Number → Request
+bare n =
+    record {
+      number = n;
+      clock = record { 0 = 0 };
+      operation = record { code = 0; r = 0; q = 0; amount = 0 };
+      strong = false;
+      context = emptySet;
+    }
+
+-- what is held for a message
+unfoldable pub held : BusMessage → Message
+held (request r) = record { settles = false; request = r }
+held (settlement n) = record { settles = true; request = bare n }
+
+-- zeros, where there is no message
+unfoldable pub noMessage : Message
+noMessage = record { settles = false; request = bare noNumber }
+
+-- the message that is held
+unfoldable pub said : Message → BusMessage
+said m = cond (m .settles) (settlement (m .request .number)) (request (m .request))

@@ -1,0 +1,45 @@
+// Bus messages, document 01's kinds 1 to 3: a reader of a lent run of bytes and a writer into a lent part.
+//
+// Here are the types. The calls are `reader::read` and `writer::write`; `held` makes messages and tells their kind, `layout` has
+// the numbers and sizes of the kinds and where each field stands. The contracts cite `readAt`, `writeAnswer` and `afterWrite`
+// of `specs/`; that messages read back as written and write back as read is in `proofs/RoundTrip.antt`.
+use request::Request;
+
+pub mod held;
+mod integers;
+pub mod layout;
+pub mod reader;
+pub mod writer;
+
+// The kinds of messages; `kindNumber` of `specs/` gives their numbers.
+pub enum Kind {
+    Weak,
+    Strong,
+    Settlement,
+}
+
+// A message: the request, or the settlement of its number, for which the other fields stand for nothing.
+pub struct Message {
+    pub settles: bool,
+    pub request: Request,
+}
+
+// What stands at a place: a message, the end of the bytes, or what is refused by this number.
+pub enum Answer {
+    Message,
+    End,
+    Refused(u8),
+}
+
+// An answer with the message and the bytes taken, zeros where there is no message.
+pub struct Reading {
+    pub answer: Answer,
+    pub message: Message,
+    pub taken: usize,
+}
+
+// The refusal, or 0, and the bytes written.
+pub struct Written {
+    pub refusal: u8,
+    pub bytes: usize,
+}
