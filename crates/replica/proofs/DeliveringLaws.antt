@@ -26,7 +26,7 @@ use Rattle.creek.proofs.LookupLaws.{lastEvent-heard, lastClock-heard}
 use Rattle.replica.specs.declared.State.{State}
 use Rattle.replica.specs.Model.{bodyAt, requestAt, planOf, bookOf, model, Inv, Kept}
 use Rattle.replica.specs.Entering.{withBody, judged, Enters, Entered}
-use Rattle.replica.proofs.EnteringRequests.{held-some, held-none}
+use Rattle.replica.proofs.RequestLaws.{held-some, held-none}
 use Rattle.replica.proofs.EnteringStates.{plan-sound, good-widely, new-enters, plan-entered, counts-stay, again}
 use Rattle.replica.proofs.KeptLaws.{kept-refused, kept-accepted}
 
@@ -89,15 +89,15 @@ module _ (p : State) (x : Request) (inv : Inv p) where
     unfolding requestAt
     read-at s is = rw (is, number-of-slot (x .number) good)
 
-    pub kept-held : member (p .held) (x .number) ≡ true → (s : ℕ) → s ≡ slotOf (x .number)
-        → (w : ℕ) (a : Answer) → w ≡ heldRefusal (some (heldThere p x s)) x → a ≡ refusedWith w noNumber
+    pub kept-held : member (p .held) (x .number) ≡ true → (s : ℕ) → s ≡ slotOf (x .number) → (y : Request) → y ≡ heldThere p x s
+        → (w : ℕ) (a : Answer) → w ≡ heldRefusal (some y) x → a ≡ refusedWith w noNumber
         → Kept p (deliver x) (record { answer = a; state = p })
     unfolding refusal namedByRefusal bookOf
-    kept-held there s slot-is w a is answers =
-        kept-refused p (deliver x) w a inv refuses (λ e. never (sameRequest (heldThere p x s) x) (sym is ∙ e)) answers
+    kept-held there s slot-is y y-is w a is answers =
+        kept-refused p (deliver x) w a inv refuses (λ e. never (sameRequest y x) (sym is ∙ e)) answers
       where
         refuses : deliverRefusal (planOf p) x ≡ w
-        refuses = refusal-is (some (heldThere p x s)) (held-some p inv (x .number) good there ∙ ap some (read-at s slot-is)) ∙ sym is
+        refuses = refusal-is (some y) (held-some p inv (x .number) good there ∙ ap some (read-at s slot-is ∙ sym y-is)) ∙ sym is
 
         never : (b : Bool) → cond b refused.heldAlready refused.numberClash ≡ refused.accepted → ⊥
         never true e = omega arith

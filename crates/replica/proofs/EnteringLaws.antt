@@ -38,7 +38,7 @@ use Rattle.replica.specs.declared.State.{State}
 use Rattle.replica.specs.Model.{noBody, requestAt, orderSlots, boardSlots, orderOf, boardOf, planOf, bookOf, model}
 use Rattle.replica.specs.Model.{Counts, Lengths, Log, Inv}
 use Rattle.replica.specs.Entering.{bodyOf, Enters, Entered}
-use Rattle.replica.proofs.EnteringRequests.{tentativeSlots, same-request, order-planned, count-held}
+use Rattle.replica.proofs.RequestLaws.{tentativeSlots, same-request, order-planned, count-held}
 
 -- ---- what the code builds
 

@@ -22,7 +22,7 @@ use Rattle.replica.specs.declared.Counters.{Counters}
 use Rattle.replica.specs.declared.State.{State}
 use Rattle.replica.specs.Model.{requestAt, orderSlots, planOf, bookOf, model, Inv}
 use Rattle.replica.specs.Entering.{Enters, Represented, Entered}
-use Rattle.replica.proofs.EnteringRequests.{order-planned, count-held}
+use Rattle.replica.proofs.RequestLaws.{order-planned, count-held}
 
 pub plan-sound : (p : State) → Inv p → SoundPlan (planOf p)
 unfolding model bookOf

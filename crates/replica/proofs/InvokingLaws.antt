@@ -38,7 +38,7 @@ use Rattle.replica.specs.declared.Body.{Body}
 use Rattle.replica.specs.declared.State.{State}
 use Rattle.replica.specs.Model.{requestAt, orderSlots, planOf, bookOf, model, Inv, Kept}
 use Rattle.replica.specs.Entering.{Asked, contextFor, Enters, Represented, Entered}
-use Rattle.replica.proofs.EnteringRequests.{tentativeSlots}
+use Rattle.replica.proofs.RequestLaws.{tentativeSlots}
 use Rattle.replica.proofs.EnteringStates.{plan-sound, new-enters, plan-entered, counts-stay, again}
 use Rattle.replica.proofs.KeptLaws.{kept-refused, kept-accepted}
 

@@ -1,6 +1,7 @@
 -- The laws behind the calls: what they keep, how the map looks at the state, the log, and the files for each call.
 pub mod KeptLaws
 pub mod ModelLaws
+pub mod RequestLaws
 pub mod LogLaws
 pub mod FreshLaws
 pub mod BoundLaws
@@ -10,7 +11,6 @@ pub mod ExecuteLaws
 pub mod ShowingLaws
 pub mod OwnLaws
 pub mod DueLaws
-pub mod EnteringRequests
 pub mod EnteringLaws
 pub mod EnteringStates
 pub mod DeliveringLaws

@@ -20,7 +20,8 @@ use Rattle.replica.specs.declared.State.{State}
 use Rattle.replica.specs.Model.{requestAt, planOf, bookOf, Inv, Kept}
 use Rattle.replica.specs.Settling.{numberRefusal, heldAnswer}
 use Rattle.replica.proofs.KeptLaws.{kept-refused}
-use Rattle.replica.proofs.SettlingHeldLaws.{keptAt, strongAt, contextAt, sound-plan, good-widened, held-none, HeldAt, held-request}
+use Rattle.replica.proofs.SettlingHeldLaws.{keptAt, strongAt, contextAt, sound-plan, good-widened, HeldAt, held-request}
+use Rattle.replica.proofs.RequestLaws.{held-none}
 use Rattle.replica.proofs.SettlingHeldLaws.{found-tentative, committed-is-known}
 
 module _ (p : State) (n : Number) where
@@ -41,7 +42,7 @@ module _ (p : State) (n : Number) where
 
   absent-refused : Inv p → badNumber (p .panels) n ≡ false → member (p .held) n ≡ false
       → refusal (bookOf p) (commit n) ≡ refused.notHere
-  absent-refused inv e f = not-bad e ∙ ap (foundRefusal (planOf p) n) (held-none inv n (good-widened inv e) f)
+  absent-refused inv e f = not-bad e ∙ ap (foundRefusal (planOf p) n) (held-none _ inv n (good-widened inv e) f)
 
 -- ---- by the number alone
 

@@ -75,11 +75,12 @@ returns-2 c =
     let new = slot .before .before .before .before .before in
     let start = new .before .before .before in
     kept-held (start .args .t1) (start .args .x) (start .pre) (judged-new new)
-    (sym (slot .before .before .member .ensures) ∙ slot .before .if2 .taken) _ (slot .slot-of .ensures) _ _
-    (rw (c .before .before .with-body .ensures) at (c .before .held-refusal .ensures)) (c .refused2 .ensures)
+    (sym (slot .before .before .member .ensures) ∙ slot .before .if2 .taken) _ (slot .slot-of .ensures)
+    _ (c .before .before .with-body .ensures) _ _ (c .before .held-refusal .ensures) (c .refused2 .ensures)
 
 -- x is not held
-absent : (c : tie.Else2) → let a = c .before .before .before .before .before .before .before .args in member (a .t1 .held) (a .x .number) ≡ false
+absent : (c : tie.Else2)
+    → let a = c .before .before .before .before .before .before .before .args in member (a .t1 .held) (a .x .number) ≡ false
 absent c = sym (c .before .member .ensures) ∙ c .if2 .left
 
 enter-requires : tie.Need-enter-requires
