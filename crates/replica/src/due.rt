@@ -27,11 +27,10 @@ pub fn run_due(p: State) -> Ran
 }
 
 // Undoes what is to be rolled back.
-fn roll_back_all(p: State) -> State
-    requires { ⌜ Inv p ⌝ }
-    ensures { λ q. ⌜ RolledBack p q ⌝ }
+fn roll_back_all(mut q: State) -> State
+    requires { ⌜ Inv q ⌝ }
+    ensures { λ r. ⌜ RolledBack q r ⌝ }
 {
-    let mut q = p;
     while q.executed < q.stacked {
         let top = q.stacked - 1;
         let slot = q.stack[top];
@@ -45,15 +44,14 @@ fn roll_back_all(p: State) -> State
 }
 
 // Executes what is to do, with nothing to be rolled back; `undos` is handed through.
-fn execute_all(p: State, undos: u32) -> Ran
-    requires { ⌜ Inv p ⌝ }
-    requires { ⌜ p .executed ≡ p .stacked ⌝ }
-    ensures { λ r. ⌜ ExecutedAll p undos r ⌝ }
+fn execute_all(mut q: State, undos: u32) -> Ran
+    requires { ⌜ Inv q ⌝ }
+    requires { ⌜ q .executed ≡ q .stacked ⌝ }
+    ensures { λ r. ⌜ ExecutedAll q undos r ⌝ }
 {
-    let executions = (p.ordered - p.executed) as u32;
+    let executions = (q.ordered - q.executed) as u32;
     let mut replies = [no_reply(); 64];
     let mut count: usize = 0;
-    let mut q = p;
     while q.executed < q.ordered {
         let at = q.executed;
         let slot = q.order[at];

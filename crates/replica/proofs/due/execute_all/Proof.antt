@@ -12,10 +12,10 @@ use Rattle.replica.proofs.due.execute_all.Statement.{statement}
 use Rattle.replica.proofs.due.execute_all.Tie as tie
 
 abbrev Inv-loop : tie.InvT-loop
-Inv-loop undos executions replies₀ count₀ q₀ replies count q = Executing q₀ q replies count
+Inv-loop undos q₀ executions replies₀ count₀ q replies count = Executing q₀ q replies count
 
 abbrev μ-loop : tie.MeasureT-loop
-μ-loop undos executions replies₀ count₀ q₀ replies count q = q .ordered - q .executed
+μ-loop undos q₀ executions replies₀ count₀ q replies count = q .ordered - q .executed
 
 -- in the loop's body: the place and the slot of the next request
 low : (c : tie.In-loop Inv-loop μ-loop) → c .before .loop .q .executed < mostSlots
@@ -48,16 +48,16 @@ room c =
     (done .execute .ensures) (about (c .before)) (c .if1 .left)
 
 sub-executions : tie.Need-sub-executions Inv-loop μ-loop
-sub-executions c = omega (arith, c .before .pre .0 .counts)
+sub-executions c = omega (arith, c .pre .0 .counts)
 
 cast-executions : tie.Need-cast-executions Inv-loop μ-loop
-cast-executions c = omega (arith, c .before .pre .0 .counts)
+cast-executions c = omega (arith, c .pre .0 .counts)
 
 no-reply-requires : tie.Need-no-reply-requires Inv-loop μ-loop
 no-reply-requires c κs = search needs
 
 loop-holds : tie.Need-loop-holds Inv-loop μ-loop
-loop-holds c = executing-start _ _ (c .before .before .pre .0) (c .before .before .pre .1) (c .no-reply .ensures)
+loop-holds c = executing-start _ _ (c .before .pre .0) (c .before .pre .1) (c .no-reply .ensures)
 
 mul-slot : tie.Need-mul-slot Inv-loop μ-loop
 mul-slot c = omega (arith, low c)

@@ -1,0 +1,10 @@
+//! A second implementation of the bake board replica of document 01, after
+//! Algorithms 1 and 2 of Creek. It shares no code with the first and is there
+//! to be compared with it: one call, one message or one printout at a time.
+
+pub mod panel;
+pub mod printout;
+pub mod random;
+pub mod refusal;
+pub mod request;
+pub mod wire;

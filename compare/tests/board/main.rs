@@ -1,0 +1,14 @@
+//! Tests of the panel, the bus messages and the printout.
+
+mod build;
+mod edges;
+mod examples;
+mod faults;
+mod naive;
+mod random_bytes;
+mod random_calls;
+mod refusals;
+mod shop;
+mod steps;
+mod wire;
+mod worked;

@@ -1,0 +1,199 @@
+-- Demand 3 of the panel, for every list of calls: what the calls lead through is what `creek` runs through, and the theorem
+-- `panel-demand-3`.
+use Prim.Native.Nat.{ℕ, zero, suc, _≤_, _<_}
+use native.Mathlib.Omega.{arith}
+use mathlib.Core.Path.{_≡_, refl, sym, ap, _∙_}
+use mathlib.Core.Bool.{Bool, true, false, cond}
+use mathlib.Core.List.{List, [], _∷_}
+use lib.ListN.{replicate}
+use lib.Dec.{eqb}
+use Rattle.request.specs.declared.Context.{Context}
+use Rattle.request.specs.declared.Request.{Request}
+use Rattle.request.specs.Numbers.{noNumber}
+use Rattle.request.specs.Refusal as refused
+use Rattle.registers.specs.Replay.{replay}
+use Rattle.creek.specs.declared.Answer.{Answer}
+use Rattle.creek.specs.Plan.{order}
+use Rattle.creek.specs.Execution.{operations, registers, owed, isIdle}
+use Rattle.creek.specs.Book.{Call, invoke, deliver, commit, undo, execute, Book, refusal, accepted, notedAll}
+use Rattle.creek.specs.Replies.{stableMark, reply, done, responseIn, stableReplyDue}
+use Rattle.creek.specs.Replies.{settlementReply, undoReply, executionReply, acceptedAnswer}
+use Rattle.creek.specs.Calls.{Replica, fresh, step, answer, bringsRequest, isCommit, isUndo, isExecute}
+use Rattle.creek.specs.History.{run, tally, due, settleDown}
+use Rattle.creek.specs.Showing.{owedShown}
+use Rattle.creek.specs.Demand.{acceptedOf, Demand3}
+use Rattle.creek.proofs.CallLaws.{by-outcome, step-book, run-book}
+use Rattle.creek.proofs.Demand.{demand-3}
+use Rattle.replica.specs.declared.State.{State}
+use Rattle.replica.specs.declared.Opened.{Opened}
+use Rattle.replica.specs.Model.{model, Inv, Fresh}
+use Rattle.replica.proofs.ExecuteLaws.{registers-are}
+use Rattle.history.specs.History.{Leads, stay, call, refusalsIn, openedBook, refusals, acceptedIn, dueCalls, answersTo}
+use Rattle.history.specs.History.{DueStepsDone, PanelDemand3}
+
+-- ---- from one call to a list of calls
+
+-- the invariant holds of every state on the way
+pub leads-inv : {p q : State} {cs : List Call} {answers : List Answer} → Inv p → Leads p cs answers q → Inv q
+leads-inv inv stay = inv
+leads-inv inv (call r kept rest) = leads-inv (kept inv .invariant) rest
+
+-- the replica that the last state stands for is the one that `creek` runs to
+pub leads-model : {p q : State} {cs : List Call} {answers : List Answer} → Inv p → Leads p cs answers q → model q ≡ run (model p) cs
+unfolding run
+leads-model inv stay = refl
+leads-model inv (call {cs = cs} r kept rest) =
+    leads-model (kept inv .invariant) rest ∙ ap (λ (x : Replica). run x cs) (kept inv .state)
+
+-- the answers are the ones that `creek` gives
+pub leads-answers : {p q : State} {cs : List Call} {answers : List Answer} → Inv p → Leads p cs answers q → answers ≡ answersTo (model p) cs
+unfolding answersTo
+leads-answers inv stay = refl
+leads-answers inv (call {cs = cs} r kept rest) =
+    let first = kept inv .answer in
+    let others = leads-answers (kept inv .invariant) rest ∙ ap (λ (x : Replica). answersTo x cs) (kept inv .state) in
+    λ i. first i ∷ others i
+
+-- ---- for the crate below: the refusal number of an answer
+
+-- an accepted call answers 0
+accepted-refusal : (b : Book) (awaiting : Context) (c : Call) → acceptedAnswer b awaiting c .refusal ≡ refused.accepted
+unfolding acceptedAnswer settlementReply undoReply executionReply
+accepted-refusal b awaiting (invoke i) = refl
+accepted-refusal b awaiting (deliver x) = refl
+accepted-refusal b awaiting (commit n) = go (stableReplyDue (accepted b (commit n)) awaiting n)
+  where
+    go : (v : Bool) → cond v (reply noNumber (responseIn n (accepted b (commit n) .execution .executed)) stableMark) done .refusal
+        ≡ refused.accepted
+    go true = refl
+    go false = refl
+accepted-refusal b awaiting undo = go (b .execution .rollback)
+  where
+    go : (l : List Request) → undoReply l .refusal ≡ refused.accepted
+    go [] = refl
+    go (x ∷ xs) = refl
+accepted-refusal b awaiting execute = go (b .execution .todo)
+  where
+    go : (l : List Request) → executionReply b awaiting l .refusal ≡ refused.accepted
+    go [] = refl
+    go (x ∷ xs) = refl
+
+-- a call answers with the book's refusal number
+answer-refusal : (r : Replica) (c : Call) → answer r c .refusal ≡ refusal (r .book) c
+answer-refusal r c =
+    by-outcome (λ v a q. a .refusal ≡ refusal (r .book) c) r c (λ taken. accepted-refusal (r .book) (r .awaiting) c ∙ sym taken) refl
+
+-- ---- what the book says
+
+answers-refusals : (r : Replica) (cs : List Call) → refusalsIn (answersTo r cs) ≡ refusals (r .book) cs
+unfolding answersTo refusals
+answers-refusals r [] = refl
+answers-refusals r (c ∷ cs) =
+    let first = answer-refusal r c in
+    let others = answers-refusals (step r c) cs ∙ ap (λ (b : Book). refusals b cs) (step-book r c) in
+    λ i. first i ∷ others i
+
+accepted-tally : (kind : Call → Bool) (r : Replica) (cs : List Call) → tally kind r cs ≡ acceptedIn (r .book) cs kind
+unfolding tally acceptedIn
+accepted-tally kind r [] = refl
+accepted-tally kind r (c ∷ cs) =
+    let others = accepted-tally kind (step r c) cs ∙ ap (λ (b : Book). acceptedIn b cs kind) (step-book r c) in
+    omega (arith, others)
+
+-- ---- due steps
+
+-- the step that is due
+abbrev dueOn : Replica → Call
+dueOn r = due (r .book .execution)
+
+due-calls : (k : ℕ) (r : Replica) → dueCalls (suc k) (r .book) ≡ dueOn r ∷ dueCalls k (step r (dueOn r) .book)
+unfolding dueCalls
+due-calls k r = ap (λ (b : Book). dueOn r ∷ dueCalls k b) (sym (step-book r (dueOn r)))
+
+run-due : (k : ℕ) (r : Replica) → run r (dueCalls k (r .book)) ≡ settleDown k r
+unfolding run dueCalls settleDown
+run-due zero r = refl
+run-due (suc k) r = ap (run r) (due-calls k r) ∙ run-due k (step r (dueOn r))
+
+-- the answers of due steps that are all accepted
+due-answers : (k : ℕ) (r : Replica) → ((j : ℕ) → j < k → refusal (settleDown j r .book) (dueOn (settleDown j r)) ≡ refused.accepted)
+    → refusalsIn (answersTo r (dueCalls k (r .book))) ≡ replicate k refused.accepted
+unfolding dueCalls settleDown answersTo
+due-answers zero r taken = refl
+due-answers (suc k) r taken =
+    let first = answer-refusal r (dueOn r) ∙ taken 0 (omega arith) in
+    let others = due-answers k (step r (dueOn r)) (λ j h. taken (suc j) (omega arith)) in
+    ap (λ (l : List Call). refusalsIn (answersTo r l)) (due-calls k r) ∙ (λ i. first i ∷ others i)
+
+registers-model : (q : State) → Inv q → q .registers ≡ registers (model q .book .execution)
+unfolding model
+registers-model q inv = sym (registers-are q inv)
+
+-- ---- the theorem
+
+-- of a panel q to which any calls led from any panel that fresh returned
+module _ {panels own : ℕ} {opened : Opened} {calls : List Call} {answers : List Answer} {q : State} (begun : Fresh panels own opened)
+    (led : Leads (opened .state) calls answers q) where
+  pub panel-inv : Inv q
+  panel-inv = leads-inv (begun .invariant) led
+
+  pub panel-replica : model q ≡ run (fresh panels own) calls
+  panel-replica = leads-model (begun .invariant) led ∙ ap (λ (r : Replica). run r calls) (begun .state)
+
+  answered : answers ≡ answersTo (fresh panels own) calls
+  answered = leads-answers (begun .invariant) led ∙ ap (λ (r : Replica). answersTo r calls) (begun .state)
+
+  book : model q .book ≡ notedAll (openedBook panels own) calls
+  book = ap (λ (r : Replica). r .book) panel-replica ∙ run-book (fresh panels own) calls
+
+  execution : run (fresh panels own) calls .book .execution ≡ notedAll (openedBook panels own) calls .execution
+  execution = ap (λ (b : Book). b .execution) (run-book (fresh panels own) calls)
+
+  demand : Demand3 panels own calls
+  demand = demand-3 panels own calls
+
+  counted : (kind : Call → Bool) → acceptedIn (openedBook panels own) calls kind ≡ acceptedOf panels own calls kind
+  counted kind = sym (accepted-tally kind (fresh panels own) calls)
+
+  due-taken : (j : ℕ) → j < owedShown (model q)
+      → refusal (settleDown j (model q) .book) (dueOn (settleDown j (model q))) ≡ refused.accepted
+  due-taken = rw panel-replica (demand .due-accepted)
+
+  due-idle : (k : ℕ) → k ≤ owedShown (model q) → isIdle (settleDown k (model q) .book .execution) ≡ eqb k (owedShown (model q))
+  due-idle = rw panel-replica (demand .idle-exactly)
+
+  due-replayed : registers (settleDown (owedShown (model q)) (model q) .book .execution) ≡ replay (operations (order (model q .book .plan)))
+  due-replayed = rw panel-replica (demand .replayed)
+
+  due-steps : (k : ℕ) (more : List Answer) (last : State) → k ≤ owedShown (model q) → Leads q (dueCalls k (model q .book)) more last
+      → DueStepsDone q k more last
+  due-steps k more last few steps =
+      let end = leads-model panel-inv steps ∙ run-due k (model q) in
+      record {
+        accepted = ap refusalsIn (leads-answers panel-inv steps) ∙ due-answers k (model q) (λ j h. due-taken j (omega arith));
+        idle-exactly = ap (λ (r : Replica). isIdle (r .book .execution)) end ∙ due-idle k few;
+        replayed =
+            λ all. registers-model last (leads-inv panel-inv steps)
+            ∙ ap (λ (r : Replica). registers (r .book .execution)) (end ∙ ap (λ (n : ℕ). settleDown n (model q)) all)
+            ∙ due-replayed;
+      }
+
+  pub panel-demand-3 : PanelDemand3 panels own calls answers q
+  unfolding registers
+  panel-demand-3 = record {
+    book = book;
+    refused-alike = ap refusalsIn answered ∙ answers-refusals (fresh panels own) calls;
+    answered = answered;
+    replayed = registers-model q panel-inv ∙ ap (λ (b : Book). registers (b .execution)) book;
+    bounded = rw (← execution, panel-replica, counted bringsRequest, counted isCommit) (demand .bounded);
+    on-board = rw (← execution, panel-replica) (demand .on-board);
+    requests-shown = rw (panel-replica, counted bringsRequest) (demand .requests-shown);
+    commits-shown = rw (panel-replica, counted isCommit) (demand .commits-shown);
+    undos-shown = rw (panel-replica, counted isUndo) (demand .undos-shown);
+    executions-shown = rw (panel-replica, counted isExecute) (demand .executions-shown);
+    owed-shown = ap (λ (b : Book). owed (b .execution)) book;
+    settles = rw (← book) due-steps;
+    clock-order = rw (← run-book (fresh panels own) calls) (demand .clock-order);
+    undos-few = rw panel-replica (demand .undos-few);
+    executions-few = rw panel-replica (demand .executions-few);
+  }

@@ -1,0 +1,114 @@
+-- A list of calls on a panel: the states and answers that it leads through, each call keeping its contract; what the shift book says of
+-- the same calls; and demand 3 as a statement about the panel's last state. Every list of calls keeps it: `panel-demand-3` in
+-- `proofs/History`.
+use Prim.Native.Nat.{ℕ, zero, suc, _+_, _≤_}
+use mathlib.Core.Path.{_≡_}
+use mathlib.Core.Bool.{Bool, _&&_}
+use mathlib.Core.List.{List, [], _∷_, _++_, map}
+use lib.ListN.{length, replicate}
+use lib.Dec.{eqb}
+use Rattle.request.specs.Order.{before}
+use Rattle.request.specs.Refusal as refused
+use Rattle.registers.specs.Replay.{replay}
+use Rattle.lists.specs.Lists.{one, Ordered}
+use Rattle.creek.specs.declared.Answer.{Answer}
+use Rattle.creek.specs.Execution.{board, operations, owed, isIdle}
+use Rattle.creek.specs.Book.{Call, Book, refusal, isAccepted, noted, notedAll}
+use Rattle.creek.specs.Calls.{Replica, fresh, step, answer, bringsRequest, isCommit, isUndo, isExecute}
+use Rattle.creek.specs.History.{due}
+use Rattle.creek.specs.Showing.{requestsShown, commitsShown, undosShown, executionsShown, owedShown}
+use Rattle.creek.specs.Demand.{mostUndos, mostSteps}
+use Rattle.replica.specs.declared.State.{State}
+use Rattle.replica.specs.declared.Called.{Called}
+use Rattle.replica.specs.Model.{model, Inv, Kept}
+
+-- ---- the panel
+
+-- from p those calls lead to q with those answers: each call gets the state that the last one returned, and keeps its contract, which
+-- supposes the invariant
+pub data Leads : State → List Call → List Answer → State → Type 0 where
+  stay : {p : State} → Leads p [] [] p
+  call : {p q : State} {c : Call} {cs : List Call} {answers : List Answer} (r : Called)
+      → (Inv p → Kept p c r) → Leads (r .state) cs answers q → Leads p (c ∷ cs) (r .answer ∷ answers) q
+
+-- the refusal number of each answer
+abbrev pub refusalsIn : List Answer → List ℕ
+refusalsIn answers = map (λ (a : Answer). a .refusal) answers
+
+-- ---- the shift book, fed the calls alone
+
+-- the book that is told P and the own panel
+abbrev pub openedBook : ℕ → ℕ → Book
+openedBook panels own = fresh panels own .book
+
+-- the refusal number of each call, 0 for an accepted one
+unfoldable pub refusals : Book → List Call → List ℕ
+refusals b [] = []
+refusals b (c ∷ cs) = refusal b c ∷ refusals (noted b c) cs
+
+-- how many calls of a kind the book accepts among those calls
+unfoldable pub acceptedIn : Book → List Call → (Call → Bool) → ℕ
+acceptedIn b [] kind = 0
+acceptedIn b (c ∷ cs) kind = one (isAccepted b c && kind c) + acceptedIn (noted b c) cs kind
+
+-- so many calls, each the step that is due then
+unfoldable pub dueCalls : ℕ → Book → List Call
+dueCalls zero b = []
+dueCalls (suc k) b = due (b .execution) ∷ dueCalls k (noted b (due (b .execution)))
+
+-- what each call answers; this takes the requests that await a reply, which the book does not have
+unfoldable pub answersTo : Replica → List Call → List Answer
+answersTo r [] = []
+answersTo r (c ∷ cs) = answer r c ∷ answersTo (step r c) cs
+
+-- ---- demand 3 of the panel
+
+-- what holds of the panel `last` to which k steps, each due then, led from q, with those answers
+pub record DueStepsDone (q : State) (k : ℕ) (answers : List Answer) (last : State) : Type 0 where
+  -- each is accepted
+  pub accepted : refusalsIn answers ≡ replicate k refused.accepted
+  -- the panel is idle exactly when as many are done as it reported owed
+  pub idle-exactly : isIdle (model last .book .execution) ≡ eqb k (owedShown (model q))
+  -- its registers then: one replay of the settled requests in their order and then the unsettled ones, which are in clock order
+  pub replayed : k ≡ owedShown (model q)
+      → last .registers ≡ replay (operations (model q .book .plan .committed ++ model q .book .plan .tentative))
+
+module _ (panels own : ℕ) (calls : List Call) where
+  -- the shift book after those calls
+  abbrev pub shiftBook : Book
+  shiftBook = notedAll (openedBook panels own) calls
+
+  -- how many calls of a kind it accepted
+  abbrev pub acceptedCalls : (Call → Bool) → ℕ
+  acceptedCalls kind = acceptedIn (openedBook panels own) calls kind
+
+  -- what holds of the panel q to which they led, with those answers, from what fresh returned
+  pub record PanelDemand3 (answers : List Answer) (q : State) : Type 0 where
+    -- the panel's five lists and its known set are the book's, and with them the requests on the board, due and idle
+    pub book : model q .book ≡ shiftBook
+    -- the accepted calls are those that the book accepts, and the others have its refusal numbers
+    pub refused-alike : refusalsIn answers ≡ refusals (openedBook panels own) calls
+    -- every field of every answer is as `creek` has it
+    pub answered : answers ≡ answersTo (fresh panels own) calls
+    -- the registers are one replay of the requests on the board
+    pub replayed : q .registers ≡ replay (operations (board (shiftBook .execution)))
+    -- with n requests and s settlements accepted, the undos done and those still on the undo list number together at most the bound
+    pub bounded : undosShown (model q) + length (shiftBook .execution .rollback)
+        ≤ mostUndos (acceptedCalls bringsRequest) (acceptedCalls isCommit)
+    -- carry-outs done exceed undos done by exactly the number of requests on the board
+    pub on-board : executionsShown (model q) ≡ undosShown (model q) + length (board (shiftBook .execution))
+    -- the counts shown are exactly those of the accepted calls in the list
+    pub requests-shown : requestsShown (model q) ≡ acceptedCalls bringsRequest
+    pub commits-shown : commitsShown (model q) ≡ acceptedCalls isCommit
+    pub undos-shown : undosShown (model q) ≡ acceptedCalls isUndo
+    pub executions-shown : executionsShown (model q) ≡ acceptedCalls isExecute
+    -- what it reports owed is what the book owes
+    pub owed-shown : owedShown (model q) ≡ owed (shiftBook .execution)
+    -- if from there only the step that is due is called
+    pub settles : (k : ℕ) (more : List Answer) (last : State) → k ≤ owedShown (model q) → Leads q (dueCalls k shiftBook) more last
+        → DueStepsDone q k more last
+    -- the unsettled list is in clock order
+    pub clock-order : Ordered before (shiftBook .plan .tentative)
+    -- neither step counter is ever above 262,656
+    pub undos-few : undosShown (model q) ≤ mostSteps
+    pub executions-few : executionsShown (model q) ≤ mostSteps

@@ -1,0 +1,2 @@
+// From the calls' contracts to the claim about every list of calls: demand 3 of the panel, and the worthless panels that the contracts
+// shut out. The crate has no code: definitions in `specs/`, theorems in `proofs/`.

@@ -1,0 +1,3 @@
+pub mod RegisterLaws
+pub mod SizeLaws
+pub mod WorkedLines

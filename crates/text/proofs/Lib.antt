@@ -1,0 +1,4 @@
+pub mod PlacedLaws
+pub mod DecimalLaws
+pub mod LineLaws
+pub mod WorkedNumbers

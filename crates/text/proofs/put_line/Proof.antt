@@ -1,0 +1,30 @@
+-- `put_line` meets its contract by those of its callees.
+use borrow.Author.Needs.{needs}
+use Rattle.text.specs.Text.{numbers, restOfLine, line}
+use Rattle.text.proofs.PlacedLaws.{room-first, room-next, then}
+use Rattle.text.proofs.put_line.Statement.{statement}
+use Rattle.text.proofs.put_line.Tie as tie
+
+put-word-requires : tie.Need-put-word-requires
+unfolding line
+put-word-requires c κs =
+    let s = c .before .before .before .before in
+    room-first _ (restOfLine (numbers (s .args .ns .now))) (s .pre)
+
+end-line-requires : tie.Need-end-line-requires
+unfolding line
+end-line-requires c κs =
+    let w = c .before .before .before in
+    room-next _ (w .put-word .ensures) (w .before .before .before .before .before .pre)
+
+same-length : tie.Need-same-length
+same-length c = search needs
+
+returns : tie.Need-returns
+unfolding line
+returns c =
+    let w = c .before .before in
+    then (w .before .before .before .before .put-word .ensures) (w .end-line .ensures)
+
+pub put-line-spec : {M : Type 1} → statement M
+put-line-spec = tie.close (tie.spec put-word-requires end-line-requires same-length returns)
