@@ -5,6 +5,7 @@ use mathlib.Core.Bool.{Bool}
 use mathlib.Core.List.{List, _++_}
 use lib.ListN.{length}
 use lib.Dec.{eqb}
+use Rattle.counters.specs.Counted.{mostSteps}
 use Rattle.request.specs.Order.{before}
 use Rattle.request.specs.Refusal as refused
 use Rattle.registers.specs.Replay.{replay}
@@ -18,10 +19,6 @@ use Rattle.creek.specs.Showing.{requestsShown, commitsShown, undosShown,
 -- the bound: n(n−1)/2 + s·n − s(s−1)/2
 unfoldable pub mostUndos : ℕ → ℕ → ℕ
 mostUndos n s = n * (n - 1) / 2 + s * n - s * (s - 1) / 2
-
--- neither step counter is ever above this
-abbrev pub mostSteps : ℕ
-mostSteps = 262656
 
 module _ (panels own : ℕ) (calls : List Call) where
   -- the replica after the calls

@@ -1,6 +1,7 @@
 -- A list of calls on a panel: the states and answers that it leads through, each call keeping its contract; what the shift book says of
 -- the same calls; and demand 3 as a statement about the panel's last state. Every list of calls keeps it: `panel-demand-3` in
 -- `proofs/History`.
+use Rattle.counters.specs.Counted.{mostSteps}
 use Prim.Native.Nat.{ℕ, zero, suc, _+_, _≤_}
 use mathlib.Core.Path.{_≡_}
 use mathlib.Core.Bool.{Bool, _&&_}
@@ -17,7 +18,7 @@ use Rattle.creek.specs.Book.{Call, Book, refusal, isAccepted, noted, notedAll}
 use Rattle.creek.specs.Calls.{Replica, fresh, step, answer, bringsRequest, isCommit, isUndo, isExecute}
 use Rattle.creek.specs.History.{due}
 use Rattle.creek.specs.Showing.{requestsShown, commitsShown, undosShown, executionsShown, owedShown}
-use Rattle.creek.specs.Demand.{mostUndos, mostSteps}
+use Rattle.creek.specs.Demand.{mostUndos}
 use Rattle.replica.specs.declared.State.{State}
 use Rattle.replica.specs.declared.Called.{Called}
 use Rattle.replica.specs.Model.{model, Inv, Kept}

@@ -1,4 +1,5 @@
 -- The step counters have room for one more step.
+use Rattle.counters.specs.Counted.{mostSteps}
 use Prim.Native.Nat.{ℕ, _+_, _-_, _*_, _≤_, _<_}
 use native.Mathlib.Omega.{arith}
 use native.Mathlib.Nat.{mul-le-mul}
@@ -9,7 +10,6 @@ use Rattle.creek.specs.Plan.{order}
 use Rattle.creek.specs.Execution.{board}
 use Rattle.creek.specs.Calls.{Replica}
 use Rattle.creek.specs.Sound.{mostRequests, WithinBound, Sound}
-use Rattle.creek.specs.Demand.{mostSteps}
 
 -- ---- for the crate below
 

@@ -1,5 +1,6 @@
 -- The due steps one after the other: after each the job that is left is the whole job. First one step, then the two loops of `run_due`,
 -- each with what holds at its start, after each turn and at its end.
+use Rattle.counters.specs.Counted.{undoCounted, executionCounted}
 use Prim.Native.Nat.{ℕ, suc, _+_, _-_, _≤_, _<_}
 use native.Mathlib.Omega.{arith}
 use native.Mathlib.Numerals.{add-one}
@@ -27,12 +28,12 @@ use Rattle.creek.specs.Replies.{noMark, reply, awaitingAfter}
 use Rattle.creek.specs.Calls.{Replica, step, answer}
 use Rattle.creek.specs.History.{due, settleDown}
 use Rattle.creek.proofs.ExecutionLaws.{idle-owed}
-use Rattle.replica.specs.declared.Counters.{Counters}
+use Rattle.counters.specs.declared.Counters.{Counters}
 use Rattle.replica.specs.declared.DueReply.{DueReply}
 use Rattle.replica.specs.declared.State.{State}
 use Rattle.replica.specs.declared.Called.{Called}
 use Rattle.replica.specs.declared.Ran.{Ran}
-use Rattle.replica.specs.Model.{requestAt, bodyAt, orderOf, planOf, bookOf, model, noSaved, Inv, Kept, undoCounted, executionCounted}
+use Rattle.replica.specs.Model.{requestAt, bodyAt, orderOf, planOf, bookOf, model, noSaved, Inv, Kept}
 use Rattle.replica.specs.Due.{noReply, replyIn, isAwaited, dueCall, dueReplies, mostReplies, padded, stepsOwed, repliesOwed, RunDue, SameJob, RolledBack, ExecutedAll}
 use Rattle.replica.proofs.ModelLaws.{requestOf, topSlot, nextSlot, plan-sound, length-order, order-is, rollback-first, rollback-none, rollback-length, todo-length, order-next}
 use Rattle.replica.proofs.UndoLaws.{undoneState, undo-kept}

@@ -18,7 +18,7 @@ use Rattle.creek.specs.Calls.{counted}
 use Rattle.creek.specs.Sound.{SoundPlan, Sound}
 use Rattle.creek.proofs.HeldLaws.{good-request, widened, held-few}
 use Rattle.creek.proofs.PlanLaws.{New, entered-length, entered-sound}
-use Rattle.replica.specs.declared.Counters.{Counters}
+use Rattle.counters.specs.declared.Counters.{Counters}
 use Rattle.replica.specs.declared.State.{State}
 use Rattle.replica.specs.Model.{requestAt, orderSlots, planOf, bookOf, model, Inv}
 use Rattle.replica.specs.Entering.{Enters, Represented, Entered}

@@ -1,4 +1,5 @@
 -- Execute: when it is refused, its answer, the state that it leads to, and that this state is the replica after `creek`'s step.
+use Rattle.counters.specs.Counted.{executionCounted, mostSteps}
 use Prim.{tt}
 use Prim.Native.Nat.{ℕ, suc, _+_, _<_}
 use native.Mathlib.Omega.{arith}
@@ -32,12 +33,11 @@ use Rattle.creek.specs.Book.{execute, refusal, accepted}
 use Rattle.creek.specs.Replies.{reply, markOf, executionMark, executionReply, acceptedAnswer, endsWaiting, awaitingAfter, acceptedAwaiting}
 use Rattle.creek.specs.Calls.{accept}
 use Rattle.creek.specs.Sound.{Sound}
-use Rattle.creek.specs.Demand.{mostSteps}
 use Rattle.creek.proofs.StackLaws.{stacked-board, stacked-executed}
 use Rattle.replica.specs.declared.Body.{Body}
-use Rattle.replica.specs.declared.Counters.{Counters}
+use Rattle.counters.specs.declared.Counters.{Counters}
 use Rattle.replica.specs.declared.State.{State}
-use Rattle.replica.specs.Model.{requestAt, requestsAt, bodyAt, boardSlots, orderOf, boardOf, planOf, bookOf, model, Inv, Kept, executionCounted}
+use Rattle.replica.specs.Model.{requestAt, requestsAt, bodyAt, boardSlots, orderOf, boardOf, planOf, bookOf, model, Inv, Kept}
 use Rattle.replica.proofs.BoundLaws.{execution-room}
 use Rattle.replica.proofs.KeptLaws.{kept-accepted}
 use Rattle.replica.proofs.ModelLaws.{requestOf, nextSlot, length-order, length-board, order-distinct, rollback-first, rollback-none, next-slot, todo-first, order-next, todo-none}

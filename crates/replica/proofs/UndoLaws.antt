@@ -1,4 +1,5 @@
 -- Undo: when it is refused, the state that it leads to, and that this state is the replica after `creek`'s step.
+use Rattle.counters.specs.Counted.{undoCounted, mostSteps}
 use Prim.Native.Nat.{ℕ, _+_, _-_, _<_}
 use native.Mathlib.Omega.{arith}
 use mathlib.Core.Path.{_≡_, sym, ap, _∙_}
@@ -17,11 +18,10 @@ use Rattle.creek.specs.Book.{undo, refusal, accepted}
 use Rattle.creek.specs.Replies.{noMark, reply, undoReply, acceptedAnswer, acceptedAwaiting}
 use Rattle.creek.specs.Calls.{accept}
 use Rattle.creek.specs.Sound.{Sound}
-use Rattle.creek.specs.Demand.{mostSteps}
 use Rattle.creek.proofs.StackLaws.{stacked-undone}
-use Rattle.replica.specs.declared.Counters.{Counters}
+use Rattle.counters.specs.declared.Counters.{Counters}
 use Rattle.replica.specs.declared.State.{State}
-use Rattle.replica.specs.Model.{requestAt, bodyAt, boardSlots, orderOf, planOf, bookOf, model, noSaved, Inv, Kept, undoCounted}
+use Rattle.replica.specs.Model.{requestAt, bodyAt, boardSlots, orderOf, planOf, bookOf, model, noSaved, Inv, Kept}
 use Rattle.replica.proofs.BoundLaws.{undo-room}
 use Rattle.replica.proofs.KeptLaws.{kept-accepted}
 use Rattle.replica.proofs.ModelLaws.{requestOf, topSlot, beneath, board-last, beneath-length, rollback-first, rollback-none}

@@ -26,7 +26,6 @@ use Rattle.creek.specs.Stack.{stacked}
 use Rattle.creek.specs.Calls.{Replica, fresh, freshRefusal, step, answer}
 use Rattle.creek.specs.Sound.{Sound, mostRequests}
 use Rattle.replica.specs.declared.Body.{Body}
-use Rattle.replica.specs.declared.Counters.{Counters}
 use Rattle.replica.specs.declared.State.{State}
 use Rattle.replica.specs.declared.Opened.{Opened}
 use Rattle.replica.specs.declared.Called.{Called}
@@ -173,11 +172,3 @@ pub record Kept (p : State) (c : Call) (r : Called) : Type 0 where
   -- a refused call returns the very state that it was given
   pub unchanged : isAccepted (bookOf p) c ≡ false → r .state ≡ p
   pub invariant : Inv (r .state)
-
--- ---- the step counters
-
-abbrev pub undoCounted : Counters → Counters
-undoCounted c = record { undos = c .undos + 1; executions = c .executions }
-
-abbrev pub executionCounted : Counters → Counters
-executionCounted c = record { undos = c .undos; executions = c .executions + 1 }

@@ -3,9 +3,7 @@ use super::DueReply;
 use super::Ran;
 use super::State;
 use super::steps::awaiting_after;
-use super::steps::execution_counted;
 use super::steps::mark_of;
-use super::steps::undo_counted;
 use creek::mark::NOBODY;
 use request::EventNo;
 use request::Number;
@@ -38,7 +36,7 @@ fn roll_back_all(mut q: State) -> State
         let saved = q.saved[top];
         registers::rollback(&mut q.registers, body.operation, saved);
         q.stacked = top;
-        q.counters = undo_counted(q.counters);
+        q.counters = counters::undo_counted(q.counters);
     }
     q
 }
@@ -63,7 +61,7 @@ fn execute_all(mut q: State, undos: u32) -> Ran
         q.stack[at] = slot;
         q.executed = at + 1;
         q.stacked = at + 1;
-        q.counters = execution_counted(q.counters);
+        q.counters = counters::execution_counted(q.counters);
         let number = numbers::number_of(slot);
         let awaited = sets::member(q.awaiting, number);
         let mark = mark_of(awaited, body.strong, at < q.committed);

@@ -13,6 +13,7 @@ pub mod settling;
 pub mod showing;
 pub mod steps;
 
+use counters::Counters;
 use creek::Answer;
 use creek::mark::NOBODY;
 use registers::Saved;
@@ -37,12 +38,6 @@ pub struct Body {
     operation: Operation,
     strong: bool,
     context: Context,
-}
-
-// The step counters.
-pub struct Counters {
-    undos: u32,
-    executions: u32,
 }
 
 // A panel's state; only this crate makes one.

@@ -1,6 +1,5 @@
 // The two steps: undo the first of the rollback list, execute the first of the to-do list.
 use super::Called;
-use super::Counters;
 use super::State;
 use super::refused;
 use super::reply;
@@ -17,8 +16,7 @@ ghost use mathlib.Core.Path.{_≡_};
 ghost use Prim.Native.Nat.{_+_, _≤_, _<_};
 ghost use Rattle.creek.specs.Book.{undo as undoCall, execute as executeCall};
 ghost use Rattle.creek.specs.Replies.{awaitingAfter, markOf};
-ghost use Rattle.creek.specs.Demand.{mostSteps};
-ghost use Rattle.replica.specs.Model.{Inv, Kept, undoCounted, executionCounted};
+ghost use Rattle.replica.specs.Model.{Inv, Kept};
 
 // Undo one step: the first of the rollback list leaves the board, and its registers take their former values.
 pub fn undo(p: State) -> Called
@@ -36,7 +34,7 @@ pub fn undo(p: State) -> Called
     let saved = q.saved[top];
     registers::rollback(&mut q.registers, body.operation, saved);
     q.stacked = top;
-    q.counters = undo_counted(q.counters);
+    q.counters = counters::undo_counted(q.counters);
     let answer = reply(numbers::number_of(slot), 0, NOBODY);
     Called { answer, state: q }
 }
@@ -69,7 +67,7 @@ pub fn execute(p: State) -> Called
     let awaited = sets::member(q.awaiting, number);
     let mark = mark_of(awaited, body.strong, at < q.committed);
     q.awaiting = awaiting_after(q.awaiting, number, mark);
-    q.counters = execution_counted(q.counters);
+    q.counters = counters::execution_counted(q.counters);
     let answer = reply(number, response, mark);
     Called { answer, state: q }
 }
@@ -98,24 +96,4 @@ pub(crate) fn awaiting_after(awaiting: Context, n: Number, mark: u8) -> Context
         return sets::leave(awaiting, n);
     }
     awaiting
-}
-
-// One more undo.
-pub(crate) fn undo_counted(c: Counters) -> Counters
-    requires { ⌜ c .undos < mostSteps ⌝ }
-    ensures { λ d. ⌜ d ≡ undoCounted c ⌝ }
-{
-    let mut d = c;
-    d.undos = c.undos + 1;
-    d
-}
-
-// One more execution.
-pub(crate) fn execution_counted(c: Counters) -> Counters
-    requires { ⌜ c .executions < mostSteps ⌝ }
-    ensures { λ d. ⌜ d ≡ executionCounted c ⌝ }
-{
-    let mut d = c;
-    d.executions = c.executions + 1;
-    d
 }

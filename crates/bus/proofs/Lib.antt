@@ -1,0 +1,2 @@
+-- The laws of the reader's place.
+pub mod PlaceLaws

@@ -1,0 +1,3 @@
+-- The laws of lent counters.
+pub mod Lent
+pub mod Lending
