@@ -9,7 +9,7 @@ use mizzencord_compare::request::*;
 use mizzencord_compare::wire::Message;
 
 fn main() -> io::Result<()> {
-    let folder = env::args().nth(1).unwrap_or_else(|| "examples".into());
+    let folder = env::args().nth(1).unwrap_or_else(|| "../examples".into());
     let inputs = [
         ("worked", worked_input()),
         ("busy", busy_input(BUSY_SEED, 6, 70)),

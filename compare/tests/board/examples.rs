@@ -8,7 +8,7 @@ use mizzencord_compare::printout::printout;
 use crate::{naive, worked};
 
 fn stored(name: &str) -> Vec<u8> {
-    fs::read(Path::new(env!("CARGO_MANIFEST_DIR")).join("examples").join(name)).unwrap()
+    fs::read(Path::new(env!("CARGO_MANIFEST_DIR")).join("../examples").join(name)).unwrap()
 }
 
 #[test]

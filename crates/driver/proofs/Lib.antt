@@ -1,0 +1,8 @@
+-- The laws behind a run.
+pub mod SizeLaws
+pub mod MessageLaws
+pub mod Running
+pub mod CallLaws
+pub mod RunLaws
+pub mod Unread
+pub mod Examples

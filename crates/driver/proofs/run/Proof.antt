@@ -1,0 +1,61 @@
+-- `run` meets its contract.
+use native.Mathlib.Omega.{arith}
+use borrow.Author.Needs.{needs}
+use Rattle.driver.proofs.SizeLaws.{answers-room}
+use Rattle.driver.proofs.RunLaws.{ran-nothing, ran-all}
+use Rattle.driver.proofs.run.Statement.{statement}
+use Rattle.driver.proofs.run.Tie as tie
+
+byte-at-requires : tie.Need-byte-at-requires
+byte-at-requires c κs = search needs
+
+byte-at-requires-2 : tie.Need-byte-at-requires-2
+byte-at-requires-2 c κs = search needs
+
+fresh-requires : tie.Need-fresh-requires
+fresh-requires c κs = search needs
+
+call-count-requires : tie.Need-call-count-requires
+call-count-requires c κs = search needs
+
+returns : tie.Need-returns
+returns c =
+    let counted = c .before .before in
+    let opened = counted .before in
+    let own = opened .before in
+    ran-nothing _ _ _ _ _ (own .before .byte-at .ensures) (own .byte-at2 .ensures) (opened .fresh .ensures) _ (counted .call-count .ensures)
+    (c .if1 .taken)
+
+run-all-requires : tie.Need-run-all-requires
+run-all-requires c κs =
+    let roomy = c .before in
+    let counted = roomy .before .before in (
+      counted .before .fresh .ensures .invariant,
+      (counted .call-count .ensures, answers-room _ _ _ (omega (arith, counted .call-count .ensures, roomy .if1 .left))),
+    )
+
+same-length : tie.Need-same-length
+same-length c = search needs
+
+returns-2 : tie.Need-returns-2
+returns-2 c =
+    let all = c .before .before in
+    let roomy = all .before .before in
+    let counted = roomy .before .before in
+    let opened = counted .before in
+    let own = opened .before in
+    ran-all _ _ _ _ _ (own .before .byte-at .ensures) (own .byte-at2 .ensures) (opened .fresh .ensures) _ (counted .call-count .ensures)
+    (roomy .if1 .left) _ _ (all .run-all .ensures)
+
+pub run-spec : {M : Type 1} → statement M
+run-spec =
+    tie.close
+    (tie.spec
+    byte-at-requires
+    byte-at-requires-2
+    fresh-requires
+    call-count-requires
+    returns
+    run-all-requires
+    same-length
+    returns-2)

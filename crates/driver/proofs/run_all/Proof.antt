@@ -1,0 +1,74 @@
+-- `run_all` meets its contract: what is left to do from each call on is the whole run.
+use Prim.Native.Nat.{_+_, _-_, _≤_}
+use lib.ListN.{length}
+use Rattle.driver.specs.Encoding.{callSize}
+use native.Mathlib.Omega.{arith}
+use Rattle.driver.proofs.Running.{Running, run-start, call-within, run-room, run-step, run-end}
+use Rattle.driver.proofs.run_all.Statement.{statement}
+use Rattle.driver.proofs.run_all.Tie as tie
+
+abbrev Inv-loop : tie.InvT-loop
+Inv-loop s count out₀ q₀ at₀ behind₀ i₀ out q at behind i =
+    Running q₀ s count out₀ out q at behind i
+
+abbrev μ-loop : tie.MeasureT-loop
+μ-loop s count out₀ q₀ at₀ behind₀ i₀ out q at behind i = count - i
+
+-- the call of a turn lies within the bytes
+within : (c : tie.In-loop Inv-loop μ-loop)
+    → c .before .loop .at + callSize ≤ length (c .before .before .before .before .args .s .now)
+within c = call-within _ _ _ _ (c .before .before .before .before .pre .1 .0) (c .before .loop .inv .place) (c .loop-test .taken)
+
+loop-holds : tie.Need-loop-holds Inv-loop μ-loop
+loop-holds c =
+    let start = c .before .before in
+    run-start _ _ _ _ (start .pre .0) (start .pre .1 .0)
+
+call-requires : tie.Need-call-requires Inv-loop μ-loop
+call-requires c κs = (c .before .loop .inv .invariant, omega (arith, within c))
+
+put-answer-requires : tie.Need-put-answer-requires Inv-loop μ-loop
+put-answer-requires c κs =
+    let called = c .before .before in
+    let turn = called .before in
+    run-room _ _ _ _ _ _ _ _ _ (turn .loop-test .taken) (turn .before .loop .inv) (called .call .result) (called .call .ensures)
+    (turn .before .before .before .before .pre .1 .1)
+
+add-at : tie.Need-add-at Inv-loop μ-loop
+add-at c = omega (arith, within (c .before .before .before .before .before .before))
+
+add-i : tie.Need-add-i Inv-loop μ-loop
+add-i c = omega arith
+
+loop-less : tie.Need-loop-less Inv-loop μ-loop
+loop-less c = omega arith
+
+loop-again : tie.Need-loop-again Inv-loop μ-loop
+loop-again c =
+    let put = c .before .before in
+    let called = put .before .before .before in
+    let turn = called .before in
+    run-step _ _ _ _ _ _ _ _ _ (turn .loop-test .taken) (turn .before .loop .inv) (called .call .result) (called .call .ensures) _ _
+    (put .put-answer .ensures)
+
+same-length : tie.Need-same-length Inv-loop μ-loop
+same-length c = c .before .loop .inv .answers .size
+
+returns : tie.Need-returns Inv-loop μ-loop
+returns c = run-end _ _ _ _ _ _ _ _ _ (c .loop-test .left) (c .before .loop .inv)
+
+pub run-all-spec : {M : Type 1} → statement M
+run-all-spec =
+    tie.close
+    (tie.spec
+    Inv-loop
+    μ-loop
+    loop-holds
+    call-requires
+    put-answer-requires
+    add-at
+    add-i
+    loop-less
+    loop-again
+    same-length
+    returns)

@@ -1,0 +1,31 @@
+-- `hear` meets its contract.
+use Rattle.sheet.proofs.PuttingLaws.{heard-message, heard-end, heard-refused}
+use borrow.Author.Needs.{needs}
+use Rattle.sheet.proofs.hear.Statement.{statement}
+use Rattle.sheet.proofs.hear.Tie as tie
+
+enum-told : tie.Need-enum-told
+enum-told c = search needs
+
+take-in-requires : tie.Need-take-in-requires
+take-in-requires c κs = search needs
+
+enum-told-2 : tie.Need-enum-told-2
+enum-told-2 c = search needs
+
+enum-known-answer : tie.Need-enum-known-answer
+enum-known-answer c = search needs
+
+returns : tie.Need-returns
+returns c = heard-message _ _ _ (c .before .enum-told .given .1) (c .take-in .ensures)
+
+returns-2 : tie.Need-returns-2
+returns-2 c = heard-end _ _ (c .before .before .pre .0) (c .before .before .pre .1) (c .enum-told2 .given .1)
+
+returns-3 : tie.Need-returns-3
+returns-3 c = heard-refused _ _ (c .before .before .before .pre .0) (c .before .before .before .pre .1) _ (c .before .answer .given .1)
+
+pub hear-spec : {M : Type 1} → statement M
+hear-spec =
+    tie.close
+    (tie.spec enum-told take-in-requires enum-told-2 enum-known-answer returns returns-2 returns-3)

@@ -1,0 +1,53 @@
+-- `print` meets its contract.
+use native.Mathlib.Omega.{arith}
+use mathlib.Core.Path.{_≡_, refl, sym}
+use lib.Seq.{take-all, length-take-le}
+use Rattle.sheet.specs.Sheet.{mostInput}
+use borrow.Author.Needs.{needs}
+use Rattle.sheet.proofs.print.Statement.{statement}
+use Rattle.sheet.proofs.print.Tie as tie
+
+returns : tie.Need-returns
+returns c = record { short = λ h. (refl, refl); whole = λ h. absurd (omega (arith, h, c .if1 .taken)) }
+
+put-printout-requires : tie.Need-put-printout-requires
+put-printout-requires c κs = search needs
+
+same-length : tie.Need-same-length
+same-length c = search needs
+
+returns-2 : tie.Need-returns-2
+returns-2 c = record {
+  short = λ h. absurd (omega (arith, h, c .before .before .before .before .before .if1 .left));
+  whole = λ h. rw (take-all mostInput _ (c .before .before .before .before .if2 .taken)) (c .before .before .put-printout .ensures);
+}
+
+slice-aggregate-put-printout : tie.Need-slice-aggregate-put-printout
+slice-aggregate-put-printout c = sym (length-take-le mostInput (c .before .before .before .before .before .before .args .input .now) (omega (arith, c .before .before .if2 .left)))
+
+put-printout-requires-2 : tie.Need-put-printout-requires-2
+put-printout-requires-2 c κs =
+    let long = length-take-le mostInput (c .before .before .before .before .before .before .args .input .now) (omega (arith, c .before .before .if2 .left)) in
+    (omega (arith, long), omega (arith, c .before .before .before .if1 .left))
+
+same-length-2 : tie.Need-same-length-2
+same-length-2 c = search needs
+
+returns-3 : tie.Need-returns-3
+returns-3 c = record {
+  short = λ h. absurd (omega (arith, h, c .before .before .before .before .before .before .if1 .left));
+  whole = λ h. c .before .before .put-printout2 .ensures;
+}
+
+pub print-spec : {M : Type 1} → statement M
+print-spec =
+    tie.close
+    (tie.spec
+    returns
+    put-printout-requires
+    same-length
+    returns-2
+    slice-aggregate-put-printout
+    put-printout-requires-2
+    same-length-2
+    returns-3)

@@ -1,0 +1,3 @@
+-- The printout as a definition of the input's bytes, and what the functions that put it promise.
+pub mod Sheet
+pub mod Putting
