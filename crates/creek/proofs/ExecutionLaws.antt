@@ -90,7 +90,7 @@ executed-rollback e = refl
 
 pub executed-follows : {order : List Request} (e : Execution) → Follows order e → Follows order (executedNext e)
 unfolding executedNext
-executed-follows e f =
+executed-follows {order} e f =
     append-assoc (e .executed) (take 1 (e .todo)) (drop 1 (e .todo))
     ∙ ap (λ (l : List Request). e .executed ++ l) (take-append-drop 1 (e .todo)) ∙ f
 
