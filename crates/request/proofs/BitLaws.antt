@@ -48,10 +48,12 @@ module _ (op digit : ℕ → ℕ → ℕ) (test : Bool → Bool → Bool)
 
   bit-by : (k a b : ℕ) → bit k (op a b) ≡ test (bit k a) (bit k b)
   bit-by zero a b =
-      let last : op a b % 2 ≡ digit (a % 2) (b % 2) = ap (λ (x : ℕ). x % 2) (step a b) ∙ digits-mod (op (a / 2) (b / 2)) {m = 2} (small _ _ (low a) (low b)) in
+      let last : op a b % 2 ≡ digit (a % 2) (b % 2) =
+      ap (λ (x : ℕ). x % 2) (step a b) ∙ digits-mod (op (a / 2) (b / 2)) {m = 2} (small _ _ (low a) (low b)) in
       rw (bit-first (op a b), bit-first a, bit-first b, last) (tests _ _ (low a) (low b))
   bit-by (suc k) a b =
-      let rest : op a b / 2 ≡ op (a / 2) (b / 2) = ap (λ (x : ℕ). x / 2) (step a b) ∙ digits-div (op (a / 2) (b / 2)) {m = 2} (small _ _ (low a) (low b)) in
+      let rest : op a b / 2 ≡ op (a / 2) (b / 2) =
+      ap (λ (x : ℕ). x / 2) (step a b) ∙ digits-div (op (a / 2) (b / 2)) {m = 2} (small _ _ (low a) (low b)) in
       rw (bit-next k (op a b), bit-next k a, bit-next k b, rest) (bit-by k (a / 2) (b / 2))
 
 pub bit-or : (k a b : ℕ) → bit k (bitOr a b) ≡ (bit k a || bit k b)

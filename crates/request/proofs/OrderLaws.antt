@@ -60,7 +60,8 @@ lexicographic-total a b s t e f = go (compared a b)
 pub before-irreflexive : (x : Request) → before x x ≡ false
 unfolding before
 before-irreflexive x =
-    lexicographic-equal (x .clock .0) _ _ refl ∙ lexicographic-equal (x .number .panel .0) _ _ refl ∙ le-ltb (x .number .event .0) _ (omega arith)
+    lexicographic-equal (x .clock .0) _ _ refl ∙ lexicographic-equal (x .number .panel .0) _ _ refl
+    ∙ le-ltb (x .number .event .0) _ (omega arith)
 
 pub before-transitive : (x y z : Request) → before x y ≡ true → before y z ≡ true → before x z ≡ true
 unfolding before

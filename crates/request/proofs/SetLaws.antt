@@ -14,7 +14,8 @@ use borrow.Author.Tests.{eq-eqb, ne-eqb, eqb-true, eqb-false}
 use Rattle.request.specs.declared.Context.{Context}
 use Rattle.request.specs.declared.Number.{Number}
 use Rattle.request.specs.Numbers.{numbered, sameNumber, mostPanels, mostEvents, badNumber, GoodNumber}
-use Rattle.request.specs.Sets.{setOf, Words, emptySet, allZero, isEmpty, namesFrom, bit, wordFor, member, maskOf, join, leave, lackedWords, difference, subset}
+use Rattle.request.specs.Sets.{setOf, Words, emptySet, allZero, isEmpty, namesFrom, bit, wordFor, member, maskOf, join}
+use Rattle.request.specs.Sets.{leave, lackedWords, difference, subset}
 use Rattle.lists.proofs.BoolLaws.{true-not-false, both-true, both, neither, second-false, same-test}
 use Rattle.request.proofs.NumberLaws.{good-number, number-good, sameNumber-sound}
 use Rattle.request.proofs.OrderLaws.{compared}
@@ -47,7 +48,8 @@ member-inside s n h = go (compared (n .panel .0) (length (s .words)))
         let none : wordFor s n ≡ 0 = List·getD-eq-default (s .words) 0 l in
         true-not-false h (member-is-bit s n (member-good s n h) ∙ ap (bit (n .event .0 - 1)) none ∙ bit-of-zero (n .event .0 - 1))
 
-    go : (n .panel .0 < length (s .words)) ⊎ ((length (s .words) < n .panel .0) ⊎ (n .panel .0 ≡ length (s .words))) → n .panel .0 < length (s .words)
+    go : (n .panel .0 < length (s .words)) ⊎ ((length (s .words) < n .panel .0) ⊎ (n .panel .0 ≡ length (s .words)))
+        → n .panel .0 < length (s .words)
     go (inl l) = l
     go (inr (inl l)) = outside (omega arith)
     go (inr (inr e)) = outside (omega arith)
@@ -65,7 +67,13 @@ module _ (op : ℕ → ℕ → ℕ) (test : Bool → Bool → Bool) (bits : (k a
     (ws : List ℕ) (p e q f : ℕ) (inside : p < length ws) (he : 1 ≤ e) (hf : 1 ≤ f) where
   changed-here : p ≡ q → bit (f - 1) (getD (set ws p (op (getD ws p 0) (2 ^ (e - 1)))) q 0) ≡ test (bit (f - 1) (getD ws q 0)) (eqb e f)
   changed-here h =
-      rw (← h, getD-set-same ws p (op (getD ws p 0) (2 ^ (e - 1))) 0 inside, bits (f - 1) (getD ws p 0) (2 ^ (e - 1)), bit-power (f - 1) (e - 1), events-bit e f he hf)
+      rw (
+        ← h,
+        getD-set-same ws p (op (getD ws p 0) (2 ^ (e - 1))) 0 inside,
+        bits (f - 1) (getD ws p 0) (2 ^ (e - 1)),
+        bit-power (f - 1) (e - 1),
+        events-bit e f he hf,
+      )
 
   changed-elsewhere : eqb p q ≡ false → bit (f - 1) (getD (set ws p (op (getD ws p 0) (2 ^ (e - 1)))) q 0) ≡ bit (f - 1) (getD ws q 0)
   changed-elsewhere h = rw (getD-set-other ws p q (op (getD ws p 0) (2 ^ (e - 1))) 0 (λ z. eqb-false p q h (sym z)))
@@ -89,7 +97,8 @@ join-length s n = go (badNumber mostPanels n) refl
     go false e = rw (join-good s n e) (simp length-set)
 
 module _ (s : Context) (n m : Number) (long : length (s .words) ≡ mostPanels) (good : GoodNumber mostPanels n) where
-  joined-word : badNumber mostPanels m ≡ false → bit (m .event .0 - 1) (wordFor (join s n) m) ≡ (sameNumber n m || bit (m .event .0 - 1) (wordFor s m))
+  joined-word : badNumber mostPanels m ≡ false
+      → bit (m .event .0 - 1) (wordFor (join s n) m) ≡ (sameNumber n m || bit (m .event .0 - 1) (wordFor s m))
   unfolding sameNumber
   joined-word e = rw (join-good s n (number-good _ _ good)) (go (eqb (n .panel .0) (m .panel .0)) refl)
     where
@@ -100,10 +109,12 @@ module _ (s : Context) (n m : Number) (long : length (s .words) ≡ mostPanels) 
           → bit (m .event .0 - 1) (getD (set (s .words) (n .panel .0) (bitOr (wordFor s n) (maskOf n))) (m .panel .0) 0)
           ≡ (b && eqb (n .event .0) (m .event .0) || bit (m .event .0 - 1) (wordFor s m))
       go true h =
-          changed-here bitOr _||_ bit-or (s .words) (n .panel .0) (n .event .0) (m .panel .0) (m .event .0) (omega (arith, good)) (good .least) (there .least) (eqb-true _ _ h)
+          changed-here bitOr _||_ bit-or (s .words) (n .panel .0) (n .event .0) (m .panel .0) (m .event .0)
+          (omega (arith, good)) (good .least) (there .least) (eqb-true _ _ h)
           ∙ or-comm (bit (m .event .0 - 1) (wordFor s m)) (eqb (n .event .0) (m .event .0))
       go false h =
-          changed-elsewhere bitOr _||_ bit-or (s .words) (n .panel .0) (n .event .0) (m .panel .0) (m .event .0) (omega (arith, good)) (good .least) (there .least) h
+          changed-elsewhere bitOr _||_ bit-or (s .words) (n .panel .0) (n .event .0) (m .panel .0) (m .event .0)
+          (omega (arith, good)) (good .least) (there .least) h
 
   differs : badNumber mostPanels m ≡ true → sameNumber n m ≡ false
   differs e = go (sameNumber n m) refl
@@ -126,7 +137,8 @@ leave-none : (s : Context) (n : Number) → member s n ≡ false → leave s n �
 unfolding leave
 leave-none s n e = rw e
 
-leave-some : (s : Context) (n : Number) → member s n ≡ true → leave s n ≡ setOf (set (s .words) (n .panel .0) (bitXor (wordFor s n) (maskOf n)))
+leave-some : (s : Context) (n : Number) → member s n ≡ true
+    → leave s n ≡ setOf (set (s .words) (n .panel .0) (bitXor (wordFor s n) (maskOf n)))
 unfolding leave
 leave-some s n e = rw e
 
@@ -164,10 +176,13 @@ module _ (s : Context) (n m : Number) where
           ≡ (bit (m .event .0 - 1) (wordFor s m) && not (b && eqb (n .event .0) (m .event .0)))
       go true p =
           let panels : n .panel .0 ≡ m .panel .0 = eqb-true _ _ p in
-          changed-here bitXor (λ a b. not (Bool·beq a b)) bit-xor (s .words) (n .panel .0) (n .event .0) (m .panel .0) (m .event .0) (member-inside s n h) (here .least) (there .least) panels
-          ∙ taken-out (bit (m .event .0 - 1) (wordFor s m)) (eqb (n .event .0) (m .event .0)) (λ f. let events : n .event .0 ≡ m .event .0 = eqb-true _ _ f in rw (← events, ← panels) set-bit)
+          changed-here bitXor (λ a b. not (Bool·beq a b)) bit-xor (s .words) (n .panel .0) (n .event .0) (m .panel .0) (m .event .0)
+          (member-inside s n h) (here .least) (there .least) panels
+          ∙ taken-out (bit (m .event .0 - 1) (wordFor s m)) (eqb (n .event .0) (m .event .0))
+          (λ f. let events : n .event .0 ≡ m .event .0 = eqb-true _ _ f in rw (← events, ← panels) set-bit)
       go false p =
-          changed-elsewhere bitXor (λ a b. not (Bool·beq a b)) bit-xor (s .words) (n .panel .0) (n .event .0) (m .panel .0) (m .event .0) (member-inside s n h) (here .least) (there .least) p
+          changed-elsewhere bitXor (λ a b. not (Bool·beq a b)) bit-xor (s .words) (n .panel .0) (n .event .0) (m .panel .0) (m .event .0)
+          (member-inside s n h) (here .least) (there .least) p
           ∙ sym (and-true (bit (m .event .0 - 1) (wordFor s m)))
 
   -- what is not n stays as it was
@@ -179,7 +194,8 @@ module _ (s : Context) (n m : Number) where
   pub member-leave : member (leave s n) m ≡ (member s m && not (sameNumber n m))
   member-leave = go (member s n) refl (badNumber mostPanels m) refl
     where
-      go : (a : Bool) → member s n ≡ a → (b : Bool) → badNumber mostPanels m ≡ b → member (leave s n) m ≡ (member s m && not (sameNumber n m))
+      go : (a : Bool) → member s n ≡ a → (b : Bool) → badNumber mostPanels m ≡ b
+          → member (leave s n) m ≡ (member s m && not (sameNumber n m))
       go false h b e = ap (λ (t : Context). member t m) (leave-none s n h) ∙ stays (sameNumber n m) refl h
       go true h true e = not-member (leave s n) m e ∙ sym (ap (λ (t : Bool). t && not (sameNumber n m)) (not-member s m e))
       go true h false e = member-is-bit (leave s n) m e ∙ left-word h e ∙ ap (λ (t : Bool). t && not (sameNumber n m)) (sym (member-is-bit s m e))

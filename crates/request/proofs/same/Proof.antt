@@ -15,7 +15,12 @@ same-requires-3 c κs = search needs
 
 returns : tie.Need-returns
 unfolding sameRequest
-returns c = rw (c .before .before .before .before .before .before .same .ensures, c .before .before .before .before .before .same2 .ensures, c .before .before .before .before .same3 .ensures)
+returns c =
+    rw (
+      c .before .before .before .before .before .before .same .ensures,
+      c .before .before .before .before .before .same2 .ensures,
+      c .before .before .before .before .same3 .ensures,
+    )
 
 pub same-spec : {M : Type 1} → statement M
 same-spec = tie.close (tie.spec same-requires same-requires-2 same-requires-3 returns)
