@@ -1,56 +1,23 @@
--- Laws of sets of numbers that the plan asks for: which panels a set names after a join or a leave, and a set without a list's numbers.
-use Prim.Native.Nat.{ℕ, zero, suc, _+_, _-_, _<_}
+-- Laws of a set of numbers without those of a list of requests.
+use Prim.Native.Nat.{ℕ, _+_}
 use native.Mathlib.Omega.{arith}
 use mathlib.Core.Path.{_≡_, refl, sym, ap, _∙_}
 use mathlib.Core.Bool.{Bool, true, false, not, _&&_, and-true, and-assoc}
 use mathlib.Core.List.{List, [], _∷_}
-use lib.ListN.{length, drop, replicate}
-use lib.Seq.{drop-set-lt}
+use lib.ListN.{length}
 use lib.Dec.{leb, ltb}
 use borrow.Author.Tests.{ltb-true, le-leb, not-false}
 use Rattle.request.specs.declared.Context.{Context}
 use Rattle.request.specs.declared.Number.{Number}
 use Rattle.request.specs.declared.Request.{Request}
-use Rattle.request.specs.Numbers.{mostPanels, badNumber}
-use Rattle.request.specs.Sets.{emptySet, allZero, namesFrom, member, join, leave}
+use Rattle.request.specs.Sets.{namesFrom, member, leave}
 use Rattle.lists.proofs.BoolLaws.{both-true}
 use Rattle.request.proofs.NumberLaws.{sameNumber-sym}
 use Rattle.request.proofs.SetLaws.{member-leave, leave-length}
+use Rattle.request.proofs.PanelLaws.{namesFrom-leave}
 use Rattle.lists.specs.Lists.{one, count, somePasses}
 use Rattle.creek.specs.Plan.{hasNumber, without}
 use Rattle.lists.proofs.ListLaws.{one-zero}
-
--- ---- for the crate below: the panels that a set names, from p on
-
-module _ (p : ℕ) (s : Context) (n : Number) (below : n .panel .0 < p) where
-  pub namesFrom-join : namesFrom p (join s n) ≡ namesFrom p s
-  unfolding namesFrom join
-  namesFrom-join = go (badNumber mostPanels n) refl
-    where
-      go : (b : Bool) → badNumber mostPanels n ≡ b → namesFrom p (join s n) ≡ namesFrom p s
-      go true e = rw e
-      go false e = rw (e, drop-set-lt p (s .words) (n .panel .0))
-
-  pub namesFrom-leave : namesFrom p (leave s n) ≡ namesFrom p s
-  unfolding namesFrom leave
-  namesFrom-leave = go (member s n) refl
-    where
-      go : (b : Bool) → member s n ≡ b → namesFrom p (leave s n) ≡ namesFrom p s
-      go true e = rw (e, drop-set-lt p (s .words) (n .panel .0))
-      go false e = rw e
-
-zeros-from : (p k : ℕ) → allZero (drop p (replicate k 0)) ≡ true
-unfolding allZero
-zeros-from zero zero = refl
-zeros-from zero (suc k) = zeros-from zero k
-zeros-from (suc p) zero = refl
-zeros-from (suc p) (suc k) = zeros-from p k
-
-pub namesFrom-empty : (p : ℕ) → namesFrom p emptySet ≡ false
-unfolding namesFrom
-namesFrom-empty p = ap not (zeros-from p mostPanels)
-
--- ---- a set without the numbers of a list of requests
 
 pub without-length : (s : Context) (l : List Request) → length ((without s l) .words) ≡ length (s .words)
 unfolding without

@@ -22,7 +22,7 @@ use Rattle.lists.specs.Lists.{one, count}
 use Rattle.creek.specs.Plan.{hasNumber, isOf}
 use Rattle.creek.specs.Sound.{mostRequests, isBad, ownBeyond, Held}
 use Rattle.lists.proofs.ListLaws.{one-true, one-false, count-implies, count-weaker, count-all, pigeonhole}
-use Rattle.creek.proofs.ContextLaws.{namesFrom-join}
+use Rattle.request.proofs.PanelLaws.{namesFrom-join}
 
 -- ---- a request that is not bad
 

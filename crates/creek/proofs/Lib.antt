@@ -8,6 +8,8 @@ pub mod CallLaws
 pub mod RefusalLaws
 pub mod SoundLaws
 pub mod StackLaws
+pub mod DueLaws
+pub mod BoundLaws
 pub mod Demand
 pub mod ResponseLaws
 pub mod StableReply

@@ -30,7 +30,8 @@ use Rattle.creek.specs.Sound.{isBad, ownBeyond, Held, unknown, knownAgai
 use Rattle.lists.proofs.ListLaws.{one-true, one-false, count-append, count-implies, count-never, count-weaker, counts-length}
 use Rattle.lists.proofs.ListLaws.{none-passes-count, count-keep, count-split, keep-found, find-none, found-passes, found-counts}
 use Rattle.lists.proofs.ListLaws.{found-not, find-skip, count-insert, keep-ordered, insert-ordered}
-use Rattle.creek.proofs.ContextLaws.{beyond, without-member, without-namesFrom, namesFrom-empty}
+use Rattle.request.proofs.PanelLaws.{namesFrom-empty}
+use Rattle.creek.proofs.ContextLaws.{beyond, without-member, without-namesFrom}
 use Rattle.creek.proofs.HeldLaws.{Good, good-request, widened, number-held, held-moved, held-known, held-more}
 
 -- ---- what acceptance says
@@ -312,7 +313,7 @@ committing-starts a x = append-assoc (a .committed) (keep (named x) (a .tentativ
 
 module _ (a : Plan) (x : Request) (found : find (hasNumber (x .number)) (a .tentative) ≡ some x) (sound : SoundPlan a) where
   -- a good context does not name its own request
-  not-itself : named x x ≡ false
+  pub not-itself : named x x ≡ false
   unfolding badContext
   not-itself =
       let few : count (isBad (a .panels)) (a .tentative) ≡ 0 =

@@ -23,7 +23,7 @@ use Rattle.creek.specs.History.{run}
 use Rattle.creek.specs.Sound.{SoundPlan, WithinBound, SoundBook, Sound}
 use Rattle.creek.proofs.CallLaws.{by-outcome}
 use Rattle.lists.proofs.ListLaws.{count-append, count-most}
-use Rattle.creek.proofs.ContextLaws.{namesFrom-empty}
+use Rattle.request.proofs.PanelLaws.{namesFrom-empty}
 use Rattle.creek.proofs.HeldLaws.{held-few}
 use Rattle.creek.proofs.PlanLaws.{New, made-new, heard-new, commits, entered-count, entered-length, entered-committed}
 use Rattle.creek.proofs.PlanLaws.{entered-sound, committing-starts, committing-count, committing-length, committing-sound}

@@ -13,7 +13,7 @@ use Rattle.lists.specs.Lists.{Ordered}
 use Rattle.creek.specs.Execution.{board, operations, registers, isIdle}
 use Rattle.creek.specs.Book.{Call, refusal}
 use Rattle.creek.specs.Calls.{Replica, fresh, bringsRequest, isCommit, isUndo, isExecute}
-use Rattle.creek.specs.History.{run, tally, due, settleDown}
+use Rattle.creek.specs.History.{run, acceptedIn, due, settleDown}
 use Rattle.creek.specs.Showing.{requestsShown, commitsShown, undosShown, executionsShown, owedShown}
 
 -- the bound: n(n−1)/2 + s·n − s(s−1)/2
@@ -31,7 +31,7 @@ module _ (panels own : ℕ) (calls : List Call) where
 
   -- how many calls of a kind were accepted among them
   abbrev pub acceptedOf : (Call → Bool) → ℕ
-  acceptedOf kind = tally kind (fresh panels own) calls
+  acceptedOf kind = acceptedIn (fresh panels own .book) calls kind
 
   pub record Demand3 : Type 0 where
     -- with n requests, made or heard, and s settlements accepted, the undo steps done and those still on the undo list number together

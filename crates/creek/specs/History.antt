@@ -4,7 +4,7 @@ use mathlib.Core.Bool.{Bool, _&&_, cond}
 use mathlib.Core.List.{List, [], _∷_}
 use Rattle.lists.specs.Lists.{one, isNil}
 use Rattle.creek.specs.Execution.{Execution}
-use Rattle.creek.specs.Book.{Call, undo, execute, isAccepted}
+use Rattle.creek.specs.Book.{Call, undo, execute, Book, isAccepted, noted}
 use Rattle.creek.specs.Calls.{Replica, step}
 
 -- the replica after those calls, each on what the last one left
@@ -12,10 +12,10 @@ unfoldable pub run : Replica → List Call → Replica
 run r [] = r
 run r (c ∷ cs) = run (step r c) cs
 
--- how many calls of a kind are accepted among those calls
-unfoldable pub tally : (Call → Bool) → Replica → List Call → ℕ
-tally kind r [] = 0
-tally kind r (c ∷ cs) = one (isAccepted (r .book) c && kind c) + tally kind (step r c) cs
+-- how many calls of a kind the book, fed the calls alone, accepts among those calls
+unfoldable pub acceptedIn : Book → List Call → (Call → Bool) → ℕ
+acceptedIn b [] kind = 0
+acceptedIn b (c ∷ cs) kind = one (isAccepted b c && kind c) + acceptedIn (noted b c) cs kind
 
 -- the step that is due while something is owed: undo if the rollback list is not empty, else carry out
 abbrev pub due : Execution → Call

@@ -18,17 +18,17 @@ use Rattle.creek.specs.Execution.{operations, registers, owed, isIdle}
 use Rattle.creek.specs.Book.{Call, invoke, deliver, commit, undo, execute, Book, refusal, accepted, notedAll}
 use Rattle.creek.specs.Replies.{stableMark, reply, done, responseIn, stableReplyDue}
 use Rattle.creek.specs.Replies.{settlementReply, undoReply, executionReply, acceptedAnswer}
-use Rattle.creek.specs.Calls.{Replica, fresh, step, answer, bringsRequest, isCommit, isUndo, isExecute}
-use Rattle.creek.specs.History.{run, tally, due, settleDown}
+use Rattle.creek.specs.Calls.{Replica, fresh, step, answer}
+use Rattle.creek.specs.History.{run, due, settleDown}
 use Rattle.creek.specs.Showing.{owedShown}
-use Rattle.creek.specs.Demand.{acceptedOf, Demand3}
+use Rattle.creek.specs.Demand.{Demand3}
 use Rattle.creek.proofs.CallLaws.{by-outcome, step-book, run-book}
 use Rattle.creek.proofs.Demand.{demand-3}
 use Rattle.replica.specs.declared.State.{State}
 use Rattle.replica.specs.declared.Opened.{Opened}
 use Rattle.replica.specs.Model.{model, Inv, Fresh}
 use Rattle.replica.proofs.ExecuteLaws.{registers-are}
-use Rattle.history.specs.History.{Leads, stay, call, refusalsIn, openedBook, refusals, acceptedIn, dueCalls, answersTo}
+use Rattle.history.specs.History.{Leads, stay, call, refusalsIn, openedBook, refusals, dueCalls, answersTo}
 use Rattle.history.specs.History.{DueStepsDone, PanelDemand3}
 
 -- ---- from one call to a list of calls
@@ -93,13 +93,6 @@ answers-refusals r (c ∷ cs) =
     let others = answers-refusals (step r c) cs ∙ ap (λ (b : Book). refusals b cs) (step-book r c) in
     λ i. first i ∷ others i
 
-accepted-tally : (kind : Call → Bool) (r : Replica) (cs : List Call) → tally kind r cs ≡ acceptedIn (r .book) cs kind
-unfolding tally acceptedIn
-accepted-tally kind r [] = refl
-accepted-tally kind r (c ∷ cs) =
-    let others = accepted-tally kind (step r c) cs ∙ ap (λ (b : Book). acceptedIn b cs kind) (step-book r c) in
-    omega (arith, others)
-
 -- ---- due steps
 
 -- the step that is due
@@ -152,9 +145,6 @@ module _ {panels own : ℕ} {opened : Opened} {calls : List Call} {answers : Lis
   demand : Demand3 panels own calls
   demand = demand-3 panels own calls
 
-  counted : (kind : Call → Bool) → acceptedIn (openedBook panels own) calls kind ≡ acceptedOf panels own calls kind
-  counted kind = sym (accepted-tally kind (fresh panels own) calls)
-
   due-taken : (j : ℕ) → j < owedShown (model q)
       → refusal (settleDown j (model q) .book) (dueOn (settleDown j (model q))) ≡ refused.accepted
   due-taken = rw panel-replica (demand .due-accepted)
@@ -185,12 +175,12 @@ module _ {panels own : ℕ} {opened : Opened} {calls : List Call} {answers : Lis
     refused-alike = ap refusalsIn answered ∙ answers-refusals (fresh panels own) calls;
     answered = answered;
     replayed = registers-model q panel-inv ∙ ap (λ (b : Book). registers (b .execution)) book;
-    bounded = rw (← execution, panel-replica, counted bringsRequest, counted isCommit) (demand .bounded);
+    bounded = rw (← execution, panel-replica) (demand .bounded);
     on-board = rw (← execution, panel-replica) (demand .on-board);
-    requests-shown = rw (panel-replica, counted bringsRequest) (demand .requests-shown);
-    commits-shown = rw (panel-replica, counted isCommit) (demand .commits-shown);
-    undos-shown = rw (panel-replica, counted isUndo) (demand .undos-shown);
-    executions-shown = rw (panel-replica, counted isExecute) (demand .executions-shown);
+    requests-shown = rw panel-replica (demand .requests-shown);
+    commits-shown = rw panel-replica (demand .commits-shown);
+    undos-shown = rw panel-replica (demand .undos-shown);
+    executions-shown = rw panel-replica (demand .executions-shown);
     owed-shown = ap (λ (b : Book). owed (b .execution)) book;
     settles = rw (← book) due-steps;
     clock-order = rw (← run-book (fresh panels own) calls) (demand .clock-order);

@@ -4,19 +4,19 @@
 use Rattle.counters.specs.Counted.{mostSteps}
 use Prim.Native.Nat.{ℕ, zero, suc, _+_, _≤_}
 use mathlib.Core.Path.{_≡_}
-use mathlib.Core.Bool.{Bool, _&&_}
+use mathlib.Core.Bool.{Bool}
 use mathlib.Core.List.{List, [], _∷_, _++_, map}
 use lib.ListN.{length, replicate}
 use lib.Dec.{eqb}
 use Rattle.request.specs.Order.{before}
 use Rattle.request.specs.Refusal as refused
 use Rattle.registers.specs.Replay.{replay}
-use Rattle.lists.specs.Lists.{one, Ordered}
+use Rattle.lists.specs.Lists.{Ordered}
 use Rattle.creek.specs.declared.Answer.{Answer}
 use Rattle.creek.specs.Execution.{board, operations, owed, isIdle}
-use Rattle.creek.specs.Book.{Call, Book, refusal, isAccepted, noted, notedAll}
+use Rattle.creek.specs.Book.{Call, Book, refusal, noted, notedAll}
 use Rattle.creek.specs.Calls.{Replica, fresh, step, answer, bringsRequest, isCommit, isUndo, isExecute}
-use Rattle.creek.specs.History.{due}
+use Rattle.creek.specs.History.{acceptedIn, due}
 use Rattle.creek.specs.Showing.{requestsShown, commitsShown, undosShown, executionsShown, owedShown}
 use Rattle.creek.specs.Demand.{mostUndos}
 use Rattle.replica.specs.declared.State.{State}
@@ -46,11 +46,6 @@ openedBook panels own = fresh panels own .book
 unfoldable pub refusals : Book → List Call → List ℕ
 refusals b [] = []
 refusals b (c ∷ cs) = refusal b c ∷ refusals (noted b c) cs
-
--- how many calls of a kind the book accepts among those calls
-unfoldable pub acceptedIn : Book → List Call → (Call → Bool) → ℕ
-acceptedIn b [] kind = 0
-acceptedIn b (c ∷ cs) kind = one (isAccepted b c && kind c) + acceptedIn (noted b c) cs kind
 
 -- so many calls, each the step that is due then
 unfoldable pub dueCalls : ℕ → Book → List Call

@@ -3,5 +3,6 @@ pub mod BoolLaws
 pub mod ListLaws
 pub mod AllLaws
 pub mod PlaceLaws
+pub mod StartLaws
 pub mod MapLaws
 pub mod StepLaws

@@ -42,7 +42,7 @@ use Rattle.replica.proofs.BoundLaws.{execution-room}
 use Rattle.replica.proofs.KeptLaws.{kept-accepted}
 use Rattle.replica.proofs.ModelLaws.{requestOf, nextSlot, length-order, length-board, order-distinct, rollback-first, rollback-none, next-slot, todo-first, order-next, todo-none}
 use Rattle.replica.proofs.LogLaws.{log-longer}
-use Rattle.replica.proofs.PlaceLaws.{passes-below}
+use Rattle.lists.proofs.StartLaws.{passes-below}
 
 -- the operation that is executed next
 abbrev pub nextBody : State → Body

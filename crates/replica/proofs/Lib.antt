@@ -6,7 +6,6 @@ pub mod LogLaws
 pub mod FreshLaws
 pub mod BoundLaws
 pub mod UndoLaws
-pub mod PlaceLaws
 pub mod ExecuteLaws
 pub mod ShowingLaws
 pub mod OwnLaws
@@ -15,7 +14,6 @@ pub mod EnteringLaws
 pub mod EnteringStates
 pub mod DeliveringLaws
 pub mod InvokingLaws
-pub mod SettlingListLaws
 pub mod SettlingHeldLaws
 pub mod SettlingRefusalLaws
 pub mod SettlingPlanLaws

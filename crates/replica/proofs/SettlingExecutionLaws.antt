@@ -28,7 +28,7 @@ use Rattle.creek.proofs.ResponseLaws.{response-behind}
 use Rattle.creek.proofs.StackLaws.{stacked-adjusted}
 use Rattle.replica.specs.declared.State.{State}
 use Rattle.replica.specs.Model.{requestsAt, orderOf, boardSlots, boardOf, planOf, operationAt, registersBefore}
-use Rattle.replica.proofs.SettlingListLaws.{commonStart-second, take-behind, start-passes}
+use Rattle.lists.proofs.StartLaws.{commonStart-second, take-behind, start-passes}
 use Rattle.replica.proofs.RequestLaws.{same-request}
 use Rattle.replica.proofs.SettlingHeldLaws.{keptAt, numberAt, sound-plan}
 use Rattle.replica.proofs.SettlingPlanLaws.{Settlement, orderThen, frontThen, restThen, committed-most, order-slots-then}

@@ -9,22 +9,18 @@ use lib.ListN.{take, drop, take-append-drop}
 use lib.Seq.{slice, take-take}
 use lib.Dec.{eqb}
 use Rattle.request.specs.declared.Request.{Request}
-use Rattle.request.specs.Sets.{isEmpty, namesFrom}
-use Rattle.request.specs.Request.{badContext}
 use Rattle.request.proofs.NumberLaws.{sameNumber-self}
 use Rattle.lists.specs.Lists.{count, keep, find, commonStart}
 use Rattle.lists.specs.Places.{All}
 use Rattle.lists.proofs.AllLaws.{all-weaken, all-take, all-drop, all-append}
-use Rattle.lists.proofs.BoolLaws.{neither-true}
-use Rattle.lists.proofs.ListLaws.{count-append, found-counts, found-not}
+use Rattle.lists.proofs.ListLaws.{count-append, found-counts}
 use Rattle.lists.proofs.MapLaws.{map-take, map-drop, keep-map, keep-agree, count-map, count-agree}
 use Rattle.slots.specs.Slots.{IsSlot, inWords}
 use Rattle.slots.specs.Settlement.{stays, settled, SettlementAsks, Settled}
 use Rattle.slots.proofs.SlotLaws.{part-of, same-slot, in-words-member, stays-by-number}
 use Rattle.slots.proofs.SettlementLaws.{all-settled, count-settled, committed-inside, committed-settled, tentative-settled}
 use Rattle.creek.specs.Plan.{order as orderPlanned, hasNumber, named, stays as staysTentative, committing}
-use Rattle.creek.specs.Sound.{isBad}
-use Rattle.creek.proofs.HeldLaws.{good-request}
+use Rattle.creek.proofs.PlanLaws.{not-itself}
 use Rattle.replica.specs.declared.State.{State}
 use Rattle.replica.specs.Model.{requestAt, requestsAt, orderSlots, orderOf, planOf, Inv}
 use Rattle.replica.proofs.SettlingHeldLaws.{keptAt, numberAt, contextAt, sound-plan}
@@ -40,19 +36,6 @@ tentativeSlots p = slice (p .committed) (p .ordered) (p .order)
 -- ---- what the code may ask of the order
 
 module _ {p : State} {s : ℕ} (inv : Inv p) (slot : IsSlot s) (found : Found p s) where
-  -- a good context does not name its own request
-  not-itself : named (keptAt p s) (keptAt p s) ≡ false
-  unfolding badContext
-  not-itself =
-      let a = planOf p in
-      let x = keptAt p s in
-      let none : count (isBad (a .panels)) (a .tentative) ≡ 0 =
-      omega (arith, sound-plan inv .held .good, count-append (isBad (a .panels)) (a .committed) (a .tentative)) in
-      let good = found-not (hasNumber (x .number)) (isBad (a .panels)) x (a .tentative) found none in
-      let weak = not (x .strong) && not (isEmpty (x .context)) in
-      let plain = neither-true (weak || named x x) (namesFrom (a .panels) (x .context)) (good-request (a .panels) x good .context) .0 in
-      neither-true weak (named x x) plain .1
-
   slots-tentative : All IsSlot (tentativeSlots p)
   slots-tentative = all-drop IsSlot (p .committed) (orderSlots p) (inv .order-slots)
 
@@ -80,7 +63,7 @@ module _ {p : State} {s : ℕ} (inv : Inv p) (slot : IsSlot s) (found : Found p 
           count-append (hasNumber n) (a .committed) (a .tentative),
           found-counts (hasNumber n) (hasNumber n) (keptAt p s) (a .tentative) found (sameNumber-self n),
         );
-    apart = in-words-member (contextAt p s) s slot ∙ not-itself;
+    apart = in-words-member (contextAt p s) s slot ∙ not-itself (planOf p) (keptAt p s) found (sound-plan inv);
   }
 
 -- ---- the two sides of a list of slots, as requests

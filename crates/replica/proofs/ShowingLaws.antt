@@ -19,7 +19,7 @@ use Rattle.replica.specs.declared.State.{State}
 use Rattle.replica.specs.Model.{orderSlots, orderOf, model, Inv}
 use Rattle.replica.specs.Shown.{RegisterShown, PlaceShown}
 use Rattle.replica.proofs.ModelLaws.{requestOf, length-order, order-is, rollback-length, todo-length}
-use Rattle.replica.proofs.PlaceLaws.{getD-inside}
+use Rattle.lists.proofs.StartLaws.{getD-inside}
 use Rattle.replica.proofs.ExecuteLaws.{registers-are}
 
 module _ (p : State) (inv : Inv p) where

@@ -3,6 +3,7 @@ pub mod NumberLaws
 pub mod WordLaws
 pub mod BitLaws
 pub mod SetLaws
+pub mod PanelLaws
 pub mod LowestLaws
 pub mod OrderLaws
 pub mod EqualityLaws

@@ -1,0 +1,102 @@
+-- Laws of the start of a list: an element at a place and whether a start reaches it; the length of a common start.
+use Prim.Native.Nat.{ℕ, zero, suc, _+_, _-_, _≤_, _<_}
+use native.Mathlib.Omega.{arith}
+use mathlib.Core.Path.{_≡_, refl, sym, ap, _∙_}
+use mathlib.Core.Bool.{Bool, true, false, cond}
+use mathlib.Core.List.{List, [], _∷_, _++_}
+use lib.ListN.{length, take, drop, getD, length-take, length-drop, take-append-drop}
+use lib.Seq.{getD-take, getD-drop, take-append-le, take-append-add}
+use lib.Dec.{leb, ltb}
+use borrow.Author.Tests.{leb-true, leb-false, ltb-true, ltb-false, le-leb, lt-leb}
+use Rattle.lists.specs.Lists.{count, somePasses, commonStart}
+use Rattle.lists.proofs.BoolLaws.{same-test}
+use Rattle.lists.proofs.ListLaws.{one-true, count-append, passes-count}
+
+-- ---- an element at a place
+
+module _ {A : Type 0} where
+  -- inside the list no default is asked for
+  pub getD-inside : (l : List A) (k : ℕ) (d e : A) → k < length l → getD l k d ≡ getD l k e
+  getD-inside [] k d e h = absurd (omega arith)
+  getD-inside (x ∷ xs) zero d e h = refl
+  getD-inside (x ∷ xs) (suc k) d e h = getD-inside xs k d e (omega arith)
+
+  module _ (p : A → Bool) where
+    pub count-at : (l : List A) (k : ℕ) (d : A) → k < length l → p (getD l k d) ≡ true → 1 ≤ count p l
+    count-at [] k d h e = absurd (omega arith)
+    count-at (x ∷ xs) zero d h e = omega (arith, one-true e)
+    count-at (x ∷ xs) (suc k) d h e = omega (arith, count-at xs k d (omega arith) e)
+
+    -- where only the element at place k passes, one of the first n passes exactly where k is below n
+    pub passes-below : (l : List A) (k n : ℕ) (d : A) → k < length l → p (getD l k d) ≡ true → count p l ≤ 1
+        → somePasses p (take n l) ≡ ltb k n
+    passes-below l k n d h e once = go (ltb k n) refl
+      where
+        parts : count p (take n l) + count p (drop n l) ≡ count p l
+        parts = sym (count-append p (take n l) (drop n l)) ∙ ap (count p) (take-append-drop n l)
+
+        go : (b : Bool) → ltb k n ≡ b → somePasses p (take n l) ≡ b
+        go true f =
+            let low = ltb-true k n f in
+            le-leb 1 (count p (take n l)) (count-at (take n l) k d (simp length-take (omega arith)) (ap p (getD-take n l k d low) ∙ e))
+        go false f =
+            let high = ltb-false k n f in
+            let place : n + (k - n) ≡ k = omega arith in
+            let there : p (getD (drop n l) (k - n) d) ≡ true = ap p (getD-drop n l (k - n) d ∙ ap (λ (j : ℕ). getD l j d) place) ∙ e in
+            let behind = count-at (drop n l) (k - n) d (simp length-drop (omega arith)) there in
+            lt-leb 1 (count p (take n l)) (omega (arith, parts))
+
+-- ---- an element behind a list
+
+module _ {A : Type 0} where
+  -- the common start is no longer than the second list
+  pub commonStart-second : (same : A → A → Bool) (xs ys : List A) → commonStart same xs ys ≤ length ys
+  commonStart-second same [] ys = omega arith
+  commonStart-second same (x ∷ xs) [] = omega arith
+  commonStart-second same (x ∷ xs) (y ∷ ys) = step (same x y) (commonStart-second same xs ys)
+    where
+      step : (b : Bool) {n m : ℕ} → n ≤ m → cond b (suc n) 0 ≤ suc m
+      step true h = omega arith
+      step false h = omega arith
+
+  -- a start that is long enough has x behind c
+  pub take-behind : (k : ℕ) (c : List A) (x : A) (rest : List A) → length c + 1 ≤ k
+      → take k (c ++ x ∷ rest) ≡ c ++ x ∷ take (k - length c - 1) rest
+  take-behind k c x rest h =
+      let sum : k ≡ length c + suc (k - length c - 1) = omega arith in
+      ap (λ (m : ℕ). take m (c ++ x ∷ rest)) sum ∙ take-append-add c (x ∷ rest) (suc (k - length c - 1))
+
+  -- where x is the first that passes, some of a start pass exactly where it is long enough to have x
+  module _ (p : A → Bool) (c : List A) (x : A) (rest : List A) (passes : p x ≡ true) (first : count p c ≡ 0) where
+    reached : (k : ℕ) → length c + 1 ≤ k → 1 ≤ count p (take k (c ++ x ∷ rest))
+    reached k h =
+        omega (
+          arith,
+          ap (count p) (take-behind k c x rest h),
+          count-append p c (x ∷ take (k - length c - 1) rest),
+          one-true passes,
+        )
+
+    short : (k : ℕ) → k ≤ length c → count p (take k (c ++ x ∷ rest)) ≡ 0
+    short k h =
+        omega (
+          arith,
+          ap (count p) (take-append-le k c (x ∷ rest) h),
+          ap (count p) (take-append-drop k c),
+          count-append p (take k c) (drop k c),
+        )
+
+    pub start-passes : (k : ℕ) → somePasses p (take k (c ++ x ∷ rest)) ≡ leb (length c + 1) k
+    start-passes k = same-test _ _ long (λ e. le-leb 1 _ (reached k (leb-true (length c + 1) k e)))
+      where
+        long : somePasses p (take k (c ++ x ∷ rest)) ≡ true → leb (length c + 1) k ≡ true
+        long e = go (leb (length c + 1) k) refl
+          where
+            go : (b : Bool) → leb (length c + 1) k ≡ b → b ≡ true
+            go true f = refl
+            go false f =
+                absurd (omega (
+                  arith,
+                  passes-count p (take k (c ++ x ∷ rest)) e,
+                  short k (omega (arith, leb-false (length c + 1) k f)),
+                ))
