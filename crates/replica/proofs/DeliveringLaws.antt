@@ -5,11 +5,7 @@ use mathlib.Core.Path.{_≡_, refl, sym, ap, _∙_}
 use mathlib.Core.Bool.{Bool, true, false, cond}
 use mathlib.Core.Option.{Option, none, some}
 use lib.ListN.{getD}
-use Rattle.request.specs.declared.Context.{Context}
 use Rattle.request.specs.declared.Request.{Request}
-use Rattle.request.specs.declared.Clock.{Clock}
-use Rattle.request.specs.declared.PanelNo.{PanelNo}
-use Rattle.request.specs.declared.Number.{Number}
 use Rattle.request.specs.Numbers.{mostPanels, GoodNumber, badNumber, slotOf, noNumber}
 use Rattle.request.specs.Operations.{badOperation}
 use Rattle.request.specs.Sets.{member}
@@ -24,10 +20,11 @@ use Rattle.creek.specs.Calls.{accept}
 use Rattle.creek.proofs.PlanLaws.{passed, heard-new}
 use Rattle.creek.proofs.LookupLaws.{lastEvent-heard, lastClock-heard}
 use Rattle.replica.specs.declared.State.{State}
-use Rattle.replica.specs.Model.{bodyAt, requestAt, planOf, bookOf, model, Inv, Kept}
-use Rattle.replica.specs.Entering.{withBody, judged, Enters, Entered}
+use Rattle.replica.specs.Model.{bodyAt, withBody, requestAt, planOf, bookOf, model, Inv, Kept}
+use Rattle.replica.specs.Entering.{judged}
+use Rattle.replica.proofs.ModelLaws.{plan-sound}
 use Rattle.replica.proofs.RequestLaws.{held-some, held-none}
-use Rattle.replica.proofs.EnteringStates.{plan-sound, good-widely, new-enters, plan-entered, counts-stay, again}
+use Rattle.replica.proofs.EnteringStates.{good-widely, Enters, new-enters, OwnSoFar, Entered}
 use Rattle.replica.proofs.KeptLaws.{kept-refused, kept-accepted}
 
 -- ---- the refusal in two parts
@@ -112,21 +109,19 @@ module _ (p : State) (x : Request) (inv : Inv p) where
       pub heard-enters : Enters p x
       heard-enters = new-enters p x inv (heard-new (planOf p) x taken)
 
-      module _ (q : State) (e : Entered p x q) where
-        heard-model : model q ≡ accept (model p) (deliver x)
-        unfolding model accept accepted acceptedAwaiting bookOf
-        heard-model = counts-stay p q _ (p .awaiting) (e .book) (e .awaiting) (e .commits) (e .counters)
+      own-heard : OwnSoFar (p .own .0) (entered (planOf p) x) (p .awaiting) (p .events) (p .clock)
+      own-heard = record {
+        words = inv .lengths .awaiting;
+        event = inv .events ∙ sym (lastEvent-heard (planOf p) (plan-sound p inv) x taken);
+        reading = inv .clock ∙ sym (lastClock-heard (planOf p) (plan-sound p inv) x taken);
+        waits = inv .awaiting-own;
+      }
 
-        pub kept-heard : (a : Answer) → a ≡ done → Kept p (deliver x) (record { answer = a; state = q })
-        unfolding refusal acceptedAnswer bookOf
-        kept-heard a answers =
-            kept-accepted p q (deliver x) taken a inv answers heard-model
-            (again q (entered (planOf p) x) (plan-entered p x q e) (e .represented)
-            (e .events ∙ inv .events ∙ sym (lastEvent-heard (planOf p) (plan-sound p inv) x taken))
-            (ap (λ (c : Clock). c .0) (e .clock) ∙ inv .clock ∙ sym (lastClock-heard (planOf p) (plan-sound p inv) x taken))
-            own)
-          where
-            own : (n : Number) → member (q .awaiting) n ≡ true → n .panel .0 ≡ q .own .0
-            own n h =
-                inv .awaiting-own n (ap (λ (s : Context). member s n) (sym (e .awaiting)) ∙ h)
-                ∙ ap (λ (o : PanelNo). o .0) (sym (e .own))
+      heard-model : (q : State) → Entered p x (p .awaiting) (p .events) (p .clock) q → model q ≡ accept (model p) (deliver x)
+      unfolding model accept accepted acceptedAwaiting bookOf
+      heard-model q e = e .replica
+
+      pub kept-heard : (q : State) → Entered p x (p .awaiting) (p .events) (p .clock) q
+          → (a : Answer) → a ≡ done → Kept p (deliver x) (record { answer = a; state = q })
+      unfolding refusal acceptedAnswer bookOf
+      kept-heard q e a answers = kept-accepted p q (deliver x) taken a inv answers (heard-model q e) (e .invariant own-heard)

@@ -35,7 +35,7 @@ use Rattle.replica.specs.declared.Called.{Called}
 use Rattle.replica.specs.declared.Ran.{Ran}
 use Rattle.replica.specs.Model.{requestAt, bodyAt, orderOf, planOf, bookOf, model, noSaved, Inv, Kept}
 use Rattle.replica.specs.Due.{noReply, replyIn, isAwaited, dueCall, dueReplies, mostReplies, padded, stepsOwed, repliesOwed, RunDue, SameJob, RolledBack, ExecutedAll}
-use Rattle.replica.proofs.ModelLaws.{requestOf, topSlot, nextSlot, plan-sound, length-order, order-is, rollback-first, rollback-none, rollback-length, todo-length, order-next}
+use Rattle.replica.proofs.ModelLaws.{requestOf, topSlot, nextSlot, order-planned, plan-sound, length-order, rollback-first, rollback-none, rollback-length, todo-length, order-next}
 use Rattle.replica.proofs.UndoLaws.{undoneState, undo-kept}
 use Rattle.replica.proofs.ExecuteLaws.{nextBody, NextReply, executedState, execute-kept}
 use Rattle.replica.proofs.ShowingLaws.{owed-are}
@@ -164,7 +164,7 @@ module _ (p q : State) (replies : List DueReply) (n : ℕ) (h : Executing p q re
       omega (
         arith,
         own-few (plan-sound q (h .invariant) .held),
-        ap (count (isOf (q .own .0))) (order-is q (h .invariant)),
+        ap (count (isOf (q .own .0))) (order-planned q),
         ap (count (isOf (q .own .0))) (take-append-drop k (orderOf q)),
         count-append (isOf (q .own .0)) (take k (orderOf q)) (drop k (orderOf q)),
       )

@@ -5,8 +5,8 @@ use native.Mathlib.Nat.{zero-add}
 use mathlib.Core.Path.{_≡_, refl, sym, ap, subst, _∙_}
 use mathlib.Core.Bool.{Bool, true, false, not, _||_}
 use mathlib.Core.List.{List, map}
-use lib.ListN.{length, take, drop, set, length-take, length-map, length-set}
-use lib.Seq.{slice, take-take, getD-set-same, getD-set-other, length-take-le, length-slice}
+use lib.ListN.{length, take, drop, set, length-take, length-set}
+use lib.Seq.{take-take, getD-set-same, getD-set-other, length-slice}
 use lib.Dec.{eqb}
 use borrow.Author.Tests.{eqb-true}
 use Rattle.lists.specs.Lists.{one, count, insert, commonStart}
@@ -16,10 +16,11 @@ use Rattle.lists.proofs.ListLaws.{one-false, commonStart-most}
 use Rattle.lists.proofs.AllLaws.{all-weaken, all-take, all-drop, all-insertAt, none-all}
 use Rattle.lists.proofs.MapLaws.{map-take, map-drop, map-insertAt, count-map, leading-map, leading-agree, commonStart-map, map-agree}
 use Rattle.lists.proofs.PlaceLaws.{leading-most, insert-place, take-insertAt, drop-insertAt, count-insertAt}
+use Rattle.request.specs.declared.Clock.{Clock}
 use Rattle.request.specs.declared.Context.{Context}
 use Rattle.request.specs.declared.Number.{Number}
 use Rattle.request.specs.declared.Request.{Request}
-use Rattle.request.specs.Numbers.{sameNumber, slotOf, numberOf}
+use Rattle.request.specs.Numbers.{mostPanels, sameNumber, slotOf, numberOf}
 use Rattle.request.specs.Sets.{member, join}
 use Rattle.request.specs.Order.{before}
 use Rattle.request.specs.Request.{sameRequest}
@@ -32,29 +33,32 @@ use Rattle.creek.specs.Plan.{Plan, order, hasNumber, knownWith, entered}
 use Rattle.creek.specs.Execution.{adjusted}
 use Rattle.creek.specs.Stack.{stacked}
 use Rattle.creek.specs.Book.{planned}
+use Rattle.creek.specs.Sound.{Sound}
 use Rattle.creek.proofs.StackLaws.{stacked-board, stacked-adjusted}
 use Rattle.replica.specs.declared.Body.{Body}
 use Rattle.replica.specs.declared.State.{State}
 use Rattle.replica.specs.Model.{noBody, requestAt, orderSlots, boardSlots, orderOf, boardOf, planOf, bookOf, model}
 use Rattle.replica.specs.Model.{Counts, Lengths, Log, Inv}
-use Rattle.replica.specs.Entering.{bodyOf, Enters, Entered}
-use Rattle.replica.proofs.RequestLaws.{tentativeSlots, same-request, order-planned, count-held}
+use Rattle.replica.specs.Entering.{bodyOf}
+use Rattle.replica.proofs.ModelLaws.{order-planned, length-order}
+use Rattle.replica.proofs.RequestLaws.{tentativeSlots, same-request, count-held}
+use Rattle.replica.proofs.EnteringStates.{Enters, OwnSoFar, Entered}
 
 -- ---- what the code builds
 
 abbrev pub slot : Request → ℕ
 slot x = slotOf (x .number)
 
--- p with those sets and tables, an order of one request more, and so much of the executed list kept
-abbrev pub enlarged : State → Context → Context → List ℕ → List Body → List ℕ → ℕ → State
-enlarged p held known clocks bodies order executed = record {
+-- p with those sets and tables, what is kept of the own requests, an order of one request more, and so much of the executed list kept
+abbrev pub enlarged : State → Context → Context → Context → ℕ → Clock → List ℕ → List Body → List ℕ → ℕ → State
+enlarged p held known awaiting events clock clocks bodies order executed = record {
   panels = p .panels;
   own = p .own;
   held = held;
   known = known;
-  awaiting = p .awaiting;
-  events = p .events;
-  clock = p .clock;
+  awaiting = awaiting;
+  events = events;
+  clock = clock;
   clocks = clocks;
   bodies = bodies;
   order = order;
@@ -71,9 +75,9 @@ enlarged p held known clocks bodies order executed = record {
 }
 
 -- p with x at its slot
-abbrev pub withRequest : State → Request → List ℕ → ℕ → State
-withRequest p x order executed =
-    enlarged p (join (p .held) (x .number)) (knownWith (p .known) (x .strong) (x .number))
+abbrev pub withRequest : State → Request → Context → ℕ → Clock → List ℕ → ℕ → State
+withRequest p x awaiting events clock order executed =
+    enlarged p (join (p .held) (x .number)) (knownWith (p .known) (x .strong) (x .number)) awaiting events clock
     (set (p .clocks) (slot x) (x .clock .0)) (set (p .bodies) (slot x) (bodyOf x)) order executed
 
 -- how many of the tentative slots stand before it
@@ -184,14 +188,7 @@ module _ (p : State) (x : Request) (inv : Inv p) (new : Enters p x) where
       agree t h = ap not (comes-before-order x (at-before t) (p .clocks) t (new .number) h refl refl)
 
   long-enough : p .committed ≤ length (orderOf p)
-  long-enough =
-      omega (
-        arith,
-        inv .counts,
-        inv .lengths .order,
-        length-map (orderSlots p) at-before,
-        length-take-le (p .ordered) (p .order) (omega (arith, inv .counts, inv .lengths .order)),
-      )
+  long-enough = omega (arith, inv .counts, length-order p inv)
 
   pub place-most : placeOf p x ≤ p .ordered
   unfolding behind
@@ -206,7 +203,8 @@ module _ (p : State) (x : Request) (inv : Inv p) (new : Enters p x) where
 
   -- ---- the order with x in it
 
-  module _ (new-order : List ℕ) (ins : Inserted (p .order) (p .ordered) (placeOf p x) (slot x) new-order) where
+  module _ (new-order : List ℕ) (ins : Inserted (p .order) (p .ordered) (placeOf p x) (slot x) new-order)
+      (awaiting : Context) (events : ℕ) (clock : Clock) where
     order-after : map at-after (take (p .ordered + 1) new-order) ≡ insertAt (placeOf p x) x (orderOf p)
     order-after =
         ap (map at-after) (ins .first)
@@ -217,7 +215,7 @@ module _ (p : State) (x : Request) (inv : Inv p) (new : Enters p x) where
     kept = keptStart p new-order
 
     abbrev after : State
-    after = withRequest p x new-order kept
+    after = withRequest p x awaiting events clock new-order kept
 
     plan-after : planOf after ≡ entered (planOf p) x
     unfolding planOf entered
@@ -303,8 +301,8 @@ module _ (p : State) (x : Request) (inv : Inv p) (new : Enters p x) where
           done = omega (arith, inv .counts);
         }
 
-    lengths-after : Lengths after
-    lengths-after = record {
+    lengths-after : length (awaiting .words) ≡ mostPanels → Lengths after
+    lengths-after words = record {
       clocks = length-set (p .clocks) (slot x) (x .clock .0) ∙ inv .lengths .clocks;
       bodies = length-set (p .bodies) (slot x) (bodyOf x) ∙ inv .lengths .bodies;
       order = ins .long;
@@ -312,27 +310,36 @@ module _ (p : State) (x : Request) (inv : Inv p) (new : Enters p x) where
       saved = inv .lengths .saved;
       responses = inv .lengths .responses;
       held = join-length (p .held) (x .number) ∙ inv .lengths .held;
-      awaiting = inv .lengths .awaiting;
+      awaiting = words;
     }
 
-    pub entered-after : Entered p x (withRequest p x new-order (keptStart p new-order))
-    entered-after = record {
-      book = book-after;
-      represented = record {
-        counts = counts-after;
-        lengths = lengths-after;
-        held = held-after;
-        order-slots = order-slots-after;
-        board-slots = inv .board-slots;
-        log = subst (λ (l : List Request). Log l (p .registers) (p .saved) (p .responses)) (sym board-after) (inv .log);
-      };
-      own = refl;
-      awaiting = refl;
-      events = refl;
-      clock = refl;
-      commits = refl;
-      counters = refl;
+    invariant-after : OwnSoFar (p .own .0) (entered (planOf p) x) awaiting events clock → Sound (model after) → Inv after
+    invariant-after so-far sound = record {
+      counts = counts-after;
+      lengths = lengths-after (so-far .words);
+      held = held-after;
+      order-slots = order-slots-after;
+      board-slots = inv .board-slots;
+      log = subst (λ (l : List Request). Log l (p .registers) (p .saved) (p .responses)) (sym board-after) (inv .log);
+      events = rw plan-after (so-far .event);
+      clock = rw plan-after (so-far .reading);
+      awaiting-own = so-far .waits;
+      sound = sound;
     }
+
+    entered-after : Entered p x awaiting events clock after
+    unfolding model
+    entered-after =
+        let same : (n : ℕ) → n ≡ n + 0 = λ n. omega arith in
+        record {
+          replica = λ i. record {
+            book = book-after i;
+            awaiting = awaiting;
+            commits = same (p .commits) i;
+            counters = record { undos = same (p .counters .undos) i; executions = same (p .counters .executions) i };
+          };
+          invariant = invariant-after;
+        }
 
   -- ---- the same of the values that the code computes
 
@@ -350,9 +357,10 @@ module _ (p : State) (x : Request) (inv : Inv p) (new : Enters p x) where
 
     module _ (order : List ℕ) (inserted : Inserted (p .order) (p .ordered) at s order) where
       pub entered-by : (k : ℕ) (held known : Context) (body : Body) → k ≡ 0 + keptStart p order → held ≡ join (p .held) (x .number)
-          → known ≡ knownWith (p .known) (x .strong) (x .number) → body ≡ bodyOf x
-          → Entered p x (enlarged p held known (set (p .clocks) s (x .clock .0)) (set (p .bodies) s body) order k)
-      entered-by k held known body k-is held-is known-is body-is =
+          → known ≡ knownWith (p .known) (x .strong) (x .number) → body ≡ bodyOf x → (awaiting : Context) (events : ℕ) (clock : Clock)
+          → Entered p x awaiting events clock
+          (enlarged p held known awaiting events clock (set (p .clocks) s (x .clock .0)) (set (p .bodies) s body) order k)
+      entered-by k held known body k-is held-is known-is body-is awaiting events clock =
           rw (k-is, held-is, known-is, body-is, slot-of, zero-add)
           (entered-after order (subst (λ (t : ℕ). Inserted (p .order) (p .ordered) (placeOf p x) t order) slot-of
-          (subst (λ (k : ℕ). Inserted (p .order) (p .ordered) k s order) place-is inserted)))
+          (subst (λ (k : ℕ). Inserted (p .order) (p .ordered) k s order) place-is inserted)) awaiting events clock)

@@ -1,11 +1,11 @@
--- Between plan and state: what may enter the plan may enter the state, and the invariant of a state from its parts.
-use Prim.Native.Nat.{_+_}
+-- Between plan and state: what may enter the plan may enter the state, and what the state is then.
+use Prim.Native.Nat.{ℕ, _+_, _<_}
 use native.Mathlib.Omega.{arith}
 use mathlib.Core.Path.{_≡_, sym, ap, _∙_}
-use mathlib.Core.Bool.{true}
-use lib.ListN.{length, length-map}
-use lib.Seq.{length-take-le}
+use mathlib.Core.Bool.{true, false}
+use lib.ListN.{length}
 use Rattle.lists.proofs.ListLaws.{one-zero}
+use Rattle.request.specs.declared.Clock.{Clock}
 use Rattle.request.specs.declared.Context.{Context}
 use Rattle.request.specs.declared.Number.{Number}
 use Rattle.request.specs.declared.Request.{Request}
@@ -13,20 +13,15 @@ use Rattle.request.specs.Numbers.{mostPanels, GoodNumber}
 use Rattle.request.specs.Sets.{member}
 use Rattle.request.proofs.NumberLaws.{good-number}
 use Rattle.creek.specs.Plan.{Plan, order, entered, lastEvent, lastClock}
-use Rattle.creek.specs.Book.{Book}
+use Rattle.creek.specs.Book.{planned}
 use Rattle.creek.specs.Calls.{counted}
-use Rattle.creek.specs.Sound.{SoundPlan, Sound}
+use Rattle.creek.specs.Sound.{Sound, mostRequests}
 use Rattle.creek.proofs.HeldLaws.{good-request, widened, held-few}
 use Rattle.creek.proofs.PlanLaws.{New, entered-length, entered-sound}
-use Rattle.counters.specs.declared.Counters.{Counters}
 use Rattle.replica.specs.declared.State.{State}
-use Rattle.replica.specs.Model.{requestAt, orderSlots, planOf, bookOf, model, Inv}
-use Rattle.replica.specs.Entering.{Enters, Represented, Entered}
-use Rattle.replica.proofs.RequestLaws.{order-planned, count-held}
-
-pub plan-sound : (p : State) → Inv p → SoundPlan (planOf p)
-unfolding model bookOf
-plan-sound p inv = inv .sound .plan
+use Rattle.replica.specs.Model.{planOf, bookOf, model, Inv}
+use Rattle.replica.proofs.ModelLaws.{plan-sound, order-planned, length-order}
+use Rattle.replica.proofs.RequestLaws.{count-held}
 
 -- a number that is good in the shop is good in the largest one
 pub good-widely : (p : State) → Inv p → (n : Number) → GoodNumber (p .panels) n → GoodNumber mostPanels n
@@ -35,17 +30,17 @@ good-widely p inv n good = widened (plan-sound p inv .held .few-panels) good
 
 -- ---- what may enter
 
+-- x may enter: its number is good and not held, and the standing order has room
+pub record Enters (p : State) (x : Request) : Type 0 where
+  pub number : GoodNumber mostPanels (x .number)
+  pub absent : member (p .held) (x .number) ≡ false
+  pub room : p .ordered < mostRequests
+
 module _ (p : State) (x : Request) (inv : Inv p) (new : New (planOf p) x) where
   entering-good : GoodNumber mostPanels (x .number)
   unfolding planOf
   entering-good =
       good-widely p inv (x .number) (good-number (p .panels) (x .number) (good-request (p .panels) x (new .good) .number))
-
-  order-length : length (order (planOf p)) ≡ p .ordered
-  order-length =
-      ap length (order-planned p)
-      ∙ length-map (orderSlots p) (requestAt (p .clocks) (p .bodies))
-      ∙ length-take-le (p .ordered) (p .order) (omega (arith, inv .counts, inv .lengths .order))
 
   pub new-enters : Enters p x
   new-enters = record {
@@ -56,45 +51,25 @@ module _ (p : State) (x : Request) (inv : Inv p) (new : New (planOf p) x) where
           arith,
           held-few (entered-sound (planOf p) x new (plan-sound p inv) .held),
           entered-length (planOf p) x,
-          order-length,
+          ap length (order-planned p) ∙ length-order p inv,
         );
   }
 
 -- ---- afterwards
 
-pub plan-entered : (p : State) (x : Request) (q : State) → Entered p x q → planOf q ≡ entered (planOf p) x
-unfolding bookOf
-plan-entered p x q e = ap (λ (b : Book). b .plan) (e .book)
+-- what a state keeps of its own requests fits the plan a: the last event and clock reading, and only own requests await a reply
+pub record OwnSoFar (own : ℕ) (a : Plan) (awaiting : Context) (events : ℕ) (clock : Clock) : Type 0 where
+  pub words : length (awaiting .words) ≡ mostPanels
+  pub event : events ≡ lastEvent a
+  pub reading : clock .0 ≡ lastClock a
+  pub waits : (n : Number) → member awaiting n ≡ true → n .panel .0 ≡ own
 
--- a call that is no settlement and no step leaves the counts as they were
-pub counts-stay : (p q : State) (b : Book) (awaiting : Context) → bookOf q ≡ b → q .awaiting ≡ awaiting
-    → q .commits ≡ p .commits → q .counters ≡ p .counters
-    → model q ≡ record { book = b; awaiting = awaiting; commits = p .commits + 0; counters = counted (model p .counters) 0 0 }
-unfolding model
-counts-stay p q b awaiting book waits commits counters =
-    let same-commits : q .commits ≡ p .commits + 0 = omega arith in
-    let same-undos : q .counters .undos ≡ p .counters .undos + 0 = omega (arith, ap (λ (k : Counters). k .undos) counters) in
-    let same-executions : q .counters .executions ≡ p .counters .executions + 0 =
-    omega (arith, ap (λ (k : Counters). k .executions) counters) in
-    λ i. record {
-      book = book i;
-      awaiting = waits i;
-      commits = same-commits i;
-      counters = record { undos = same-undos i; executions = same-executions i };
-    }
-
--- the invariant of a state whose own requests so far are those of a plan that it stands for
-pub again : (q : State) (a : Plan) → planOf q ≡ a → Represented q → q .events ≡ lastEvent a → q .clock .0 ≡ lastClock a
-    → ((n : Number) → member (q .awaiting) n ≡ true → n .panel .0 ≡ q .own .0) → Sound (model q) → Inv q
-again q a plan parts events clock own sound = record {
-  counts = parts .counts;
-  lengths = parts .lengths;
-  held = parts .held;
-  order-slots = parts .order-slots;
-  board-slots = parts .board-slots;
-  log = parts .log;
-  events = rw plan events;
-  clock = rw plan clock;
-  awaiting-own = own;
-  sound = sound;
-}
+-- p became q: x entered the plan, and the execution is adjusted to the new order; of the own requests q keeps what is given
+pub record Entered (p : State) (x : Request) (awaiting : Context) (events : ℕ) (clock : Clock) (q : State) : Type 0 where
+  pub replica : model q ≡ record {
+    book = planned (entered (planOf p) x) (bookOf p .execution);
+    awaiting = awaiting;
+    commits = p .commits + 0;
+    counters = counted (model p .counters) 0 0;
+  }
+  pub invariant : OwnSoFar (p .own .0) (entered (planOf p) x) awaiting events clock → Sound (model q) → Inv q

@@ -5,17 +5,13 @@ use native.Mathlib.Numerals.{add-one}
 use mathlib.Core.Path.{_≡_, refl, sym, ap, _∙_}
 use mathlib.Core.Bool.{Bool, true, false, _||_, cond}
 use mathlib.Core.List.{List, [], _∷_, map}
-use lib.ListN.{length}
-use lib.Seq.{slice}
 use lib.Dec.{leb, ltb}
 use borrow.Author.Tests.{leb-false, lt-ltb, le-ltb, le-leb, lt-leb}
 use Rattle.lists.specs.Lists.{keep}
 use Rattle.lists.proofs.AllLaws.{all-weaken, all-drop}
 use Rattle.lists.proofs.MapLaws.{map-drop, keep-map, keep-agree}
-use Rattle.request.specs.declared.Clock.{Clock}
 use Rattle.request.specs.declared.Context.{Context}
 use Rattle.request.specs.declared.Number.{Number}
-use Rattle.request.specs.declared.PanelNo.{PanelNo}
 use Rattle.request.specs.declared.Request.{Request}
 use Rattle.request.specs.Numbers.{eventNo, sameNumber, mostPanels, mostEvents, GoodNumber, slotOf, numberOf, noNumber}
 use Rattle.request.specs.Operations.{badOperation}
@@ -37,9 +33,10 @@ use Rattle.creek.proofs.LookupLaws.{lastEvent-made, lastClock-made}
 use Rattle.replica.specs.declared.Body.{Body}
 use Rattle.replica.specs.declared.State.{State}
 use Rattle.replica.specs.Model.{requestAt, orderSlots, planOf, bookOf, model, Inv, Kept}
-use Rattle.replica.specs.Entering.{Asked, contextFor, Enters, Represented, Entered}
+use Rattle.replica.specs.Entering.{Asked, contextFor, requestFor}
+use Rattle.replica.proofs.ModelLaws.{plan-sound}
 use Rattle.replica.proofs.RequestLaws.{tentativeSlots}
-use Rattle.replica.proofs.EnteringStates.{plan-sound, new-enters, plan-entered, counts-stay, again}
+use Rattle.replica.proofs.EnteringStates.{Enters, new-enters, OwnSoFar, Entered}
 use Rattle.replica.proofs.KeptLaws.{kept-refused, kept-accepted}
 
 -- ---- the context
@@ -61,13 +58,7 @@ nextOwn p = record { panel = p .own; event = eventNo (p .events + 1) }
 
 -- the request asked for, with that context
 abbrev pub asRequest : State → Invocation → Context → Request
-asRequest p i context = record {
-  number = nextOwn p;
-  clock = i .clock;
-  operation = i .operation;
-  strong = i .strong;
-  context = context;
-}
+asRequest p i context = requestFor (nextOwn p) i context
 
 module _ (p : State) (inv : Inv p) (i : Invocation) (good : GoodNumber mostPanels (nextNumber (planOf p))) where
   later-at : later (planOf p) i ≡ map (requestAt (p .clocks) (p .bodies)) (laterSlots p (i .clock .0) (slotOf (nextNumber (planOf p))))
@@ -85,63 +76,6 @@ module _ (p : State) (inv : Inv p) (i : Invocation) (good : GoodNumber mostPanel
   context-at : without (p .known) (later (planOf p) i)
       ≡ withoutSlots (p .known) (laterSlots p (i .clock .0) (slotOf (nextNumber (planOf p))))
   context-at = ap (without (p .known)) later-at ∙ without-at (p .clocks) (p .bodies) (p .known) _
-
--- ---- the state
-
--- q, whose last own request had that event and clock reading, with those awaiting a reply
-abbrev pub asking : State → Context → ℕ → Clock → State
-asking q awaiting events clock = record {
-  panels = q .panels;
-  own = q .own;
-  held = q .held;
-  known = q .known;
-  awaiting = awaiting;
-  events = events;
-  clock = clock;
-  clocks = q .clocks;
-  bodies = q .bodies;
-  order = q .order;
-  committed = q .committed;
-  ordered = q .ordered;
-  stack = q .stack;
-  executed = q .executed;
-  stacked = q .stacked;
-  registers = q .registers;
-  saved = q .saved;
-  responses = q .responses;
-  commits = q .commits;
-  counters = q .counters;
-}
-
-asking-represented : (q : State) (awaiting : Context) (events : ℕ) (clock : Clock) → length (awaiting .words) ≡ mostPanels
-    → Represented q → Represented (asking q awaiting events clock)
-asking-represented q awaiting events clock words r = record {
-  counts = record {
-    committed = r .counts .committed;
-    ordered = r .counts .ordered;
-    executed = r .counts .executed;
-    stacked = r .counts .stacked;
-    done = r .counts .done;
-  };
-  lengths = record {
-    clocks = r .lengths .clocks;
-    bodies = r .lengths .bodies;
-    order = r .lengths .order;
-    stack = r .lengths .stack;
-    saved = r .lengths .saved;
-    responses = r .lengths .responses;
-    held = r .lengths .held;
-    awaiting = words;
-  };
-  held = r .held;
-  order-slots = r .order-slots;
-  board-slots = r .board-slots;
-  log = r .log;
-}
-
-asking-book : (q : State) (awaiting : Context) (events : ℕ) (clock : Clock) → bookOf (asking q awaiting events clock) ≡ bookOf q
-unfolding bookOf planOf
-asking-book q awaiting events clock = refl
 
 -- ---- the refusals, test by test
 
@@ -224,43 +158,33 @@ module _ (p : State) (i : Invocation) (inv : Inv p) (w : ℕ) (asked : Asked (p 
       pub asked-enters : Enters p (asRequest p i context)
       asked-enters = rw request-made made-enters
 
-      module _ (q : State) (e : Entered p (asRequest p i context) q) where
-        entered-made : Entered p (made (planOf p) i) q
-        entered-made = rw request-made at e
+      waits-own : (n : Number) → member (join (p .awaiting) (nextOwn p)) n ≡ true → n .panel .0 ≡ p .own .0
+      waits-own n h =
+          go (sameNumber (nextOwn p) n) refl
+          (sym (member-join (p .awaiting) (nextOwn p) n (inv .lengths .awaiting) (rw next-is next-good)) ∙ h)
+        where
+          go : (b : Bool) → sameNumber (nextOwn p) n ≡ b → b || member (p .awaiting) n ≡ true → n .panel .0 ≡ p .own .0
+          go true f g = ap (λ (m : Number). m .panel .0) (sym (sameNumber-sound (nextOwn p) n f))
+          go false f g = inv .awaiting-own n g
 
-        abbrev after : State
-        after = asking q (join (p .awaiting) (nextOwn p)) (p .events + 1) (i .clock)
+      own-made : OwnSoFar (p .own .0) (entered (planOf p) (made (planOf p) i)) (join (p .awaiting) (nextOwn p)) (p .events + 1) (i .clock)
+      own-made = record {
+        words = join-length (p .awaiting) (nextOwn p) ∙ inv .lengths .awaiting;
+        event = add-one (p .events) ∙ ap suc (inv .events) ∙ sym (lastEvent-made (planOf p) (plan-sound p inv) i taken);
+        reading = sym (lastClock-made (planOf p) (plan-sound p inv) i taken);
+        waits = waits-own;
+      }
 
-        made-model : model after ≡ accept (model p) (invoke i)
-        unfolding model accept accepted acceptedAwaiting bookOf made
-        made-model =
-            counts-stay p after _ _ (asking-book q _ _ _ ∙ entered-made .book) (ap (join (p .awaiting)) next-is) (e .commits) (e .counters)
+      made-model : (q : State) → Entered p (made (planOf p) i) (join (p .awaiting) (nextOwn p)) (p .events + 1) (i .clock) q
+          → model q ≡ accept (model p) (invoke i)
+      unfolding model accept accepted acceptedAwaiting bookOf made
+      made-model q e = rw next-is at (e .replica)
 
-        awaiting-words : length ((join (p .awaiting) (nextOwn p)) .words) ≡ mostPanels
-        awaiting-words = join-length (p .awaiting) (nextOwn p) ∙ inv .lengths .awaiting
-
-        awaiting-own : (n : Number) → member (join (p .awaiting) (nextOwn p)) n ≡ true → n .panel .0 ≡ q .own .0
-        awaiting-own n h =
-            go (sameNumber (nextOwn p) n) refl
-            (sym (member-join (p .awaiting) (nextOwn p) n (inv .lengths .awaiting) (rw next-is next-good)) ∙ h)
-            ∙ ap (λ (o : PanelNo). o .0) (sym (e .own))
-          where
-            go : (b : Bool) → sameNumber (nextOwn p) n ≡ b → b || member (p .awaiting) n ≡ true → n .panel .0 ≡ p .own .0
-            go true f g = ap (λ (m : Number). m .panel .0) (sym (sameNumber-sound (nextOwn p) n f))
-            go false f g = inv .awaiting-own n g
-
-        after-plan : planOf after ≡ entered (planOf p) (made (planOf p) i)
-        unfolding planOf
-        after-plan = plan-entered p (made (planOf p) i) q entered-made
-
-        pub kept-made : (awaiting : Context) (a : Answer) → awaiting ≡ join (p .awaiting) (nextOwn p) → a ≡ spread (asRequest p i context)
-            → Kept p (invoke i) (record { answer = a; state = asking q awaiting (p .events + 1) (i .clock) })
-        unfolding refusal acceptedAnswer bookOf
-        kept-made awaiting a waits answers =
-            rw waits
-            (kept-accepted p after (invoke i) taken a inv (answers ∙ ap (λ (x : Request). spread x) request-made) made-model
-            (again after (entered (planOf p) (made (planOf p) i)) after-plan
-            (asking-represented q _ _ _ awaiting-words (e .represented))
-            (add-one (p .events) ∙ ap suc (inv .events) ∙ sym (lastEvent-made (planOf p) (plan-sound p inv) i taken))
-            (sym (lastClock-made (planOf p) (plan-sound p inv) i taken))
-            awaiting-own))
+      pub kept-made : (q : State) (awaiting : Context) → awaiting ≡ join (p .awaiting) (nextOwn p)
+          → Entered p (asRequest p i context) awaiting (p .events + 1) (i .clock) q
+          → (a : Answer) → a ≡ spread (asRequest p i context) → Kept p (invoke i) (record { answer = a; state = q })
+      unfolding refusal acceptedAnswer bookOf
+      kept-made q awaiting waits e a answers =
+          let made-entered = rw (waits, request-made) at e in
+          kept-accepted p q (invoke i) taken a inv (answers ∙ ap (λ (x : Request). spread x) request-made) (made-model q made-entered)
+          (made-entered .invariant own-made)

@@ -10,8 +10,8 @@ pub mod ExecuteLaws
 pub mod ShowingLaws
 pub mod OwnLaws
 pub mod DueLaws
-pub mod EnteringLaws
 pub mod EnteringStates
+pub mod EnteringLaws
 pub mod DeliveringLaws
 pub mod InvokingLaws
 pub mod SettlingHeldLaws

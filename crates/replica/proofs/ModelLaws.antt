@@ -1,5 +1,5 @@
--- How the map looks at a state: the lengths of the standing order and of the board; the last request on the board and the next one to
--- execute; what is to be rolled back and to be executed.
+-- How the map looks at a state: the lengths of the standing order and of the board, and what they may be compared with; the last request
+-- on the board and the next one to execute; what is to be rolled back and to be executed.
 use Prim.Native.Nat.{ℕ, suc, _-_, _≤_, _<_}
 use native.Mathlib.Omega.{arith}
 use mathlib.Core.Path.{_≡_, sym, ap, _∙_}
@@ -11,11 +11,13 @@ use Rattle.lists.proofs.MapLaws.{map-drop}
 use Rattle.lists.specs.Lists.{count}
 use Rattle.request.specs.declared.Number.{Number}
 use Rattle.request.specs.declared.Request.{Request}
-use Rattle.slots.specs.Slots.{IsSlot}
+use Rattle.slots.specs.Slots.{mostSlots, IsSlot, PartsAsk}
 use Rattle.creek.specs.Plan.{order, hasNumber}
 use Rattle.creek.specs.Sound.{SoundPlan}
 use Rattle.replica.specs.declared.State.{State}
 use Rattle.replica.specs.Model.{requestAt, requestsAt, orderSlots, boardSlots, orderOf, boardOf, planOf, bookOf, model, Inv}
+
+-- ---- of every state
 
 -- the request at a slot of that state
 abbrev pub requestOf : State → ℕ → Request
@@ -36,24 +38,48 @@ requests-more q slots n h =
     ap (requestsAt q) (take-suc slots n 0 h)
     ∙ map-append (requestOf q) (take n slots) (getD slots n 0 ∷ [])
 
+-- the standing order of the plan is that of the state
+pub order-planned : (q : State) → order (planOf q) ≡ orderOf q
+unfolding planOf
+order-planned q = take-append-drop (q .committed) (orderOf q)
+
+-- ---- of one that keeps the invariant
+
 module _ (q : State) (inv : Inv q) where
-  pub plan-sound : SoundPlan (bookOf q .plan)
-  unfolding model
+  pub plan-sound : SoundPlan (planOf q)
+  unfolding model bookOf
   plan-sound = inv .sound .plan
 
+  length-order-slots : length (orderSlots q) ≡ q .ordered
+  length-order-slots = length-take-le (q .ordered) (q .order) (omega (arith, inv .counts, inv .lengths))
+
+  length-board-slots : length (boardSlots q) ≡ q .stacked
+  length-board-slots = length-take-le (q .stacked) (q .stack) (omega (arith, inv .counts, inv .lengths))
+
   pub length-order : length (orderOf q) ≡ q .ordered
-  length-order = length-map (orderSlots q) (requestOf q) ∙ length-take-le (q .ordered) (q .order) (omega (arith, inv .counts, inv .lengths))
+  length-order = length-map (orderSlots q) (requestOf q) ∙ length-order-slots
 
   pub length-board : length (boardOf q) ≡ q .stacked
-  length-board = length-map (boardSlots q) (requestOf q) ∙ length-take-le (q .stacked) (q .stack) (omega (arith, inv .counts, inv .lengths))
+  length-board = length-map (boardSlots q) (requestOf q) ∙ length-board-slots
+
+  -- the executed list may be compared with the first n of an order
+  pub executed-asks : (order : List ℕ) (n : ℕ) → n ≤ mostSlots → length order ≡ mostSlots → PartsAsk (q .stack) (q .executed) order n 0
+  executed-asks order n inside long = record {
+    first = omega arith;
+    first-inside = omega (arith, inv .counts);
+    first-long = inv .lengths .stack;
+    second = omega arith;
+    second-inside = inside;
+    second-long = long;
+  }
 
   pub order-is : order (bookOf q .plan) ≡ orderOf q
-  unfolding bookOf planOf
-  order-is = take-append-drop (q .committed) (orderOf q)
+  unfolding bookOf
+  order-is = order-planned q
 
   -- the numbers in the standing order are distinct
   pub order-distinct : (n : Number) → count (hasNumber n) (orderOf q) ≤ 1
-  order-distinct n = rw (ap (count (hasNumber n)) order-is) at (plan-sound .held .distinct n)
+  order-distinct n = rw (ap (count (hasNumber n)) (order-planned q)) at (plan-sound .held .distinct n)
 
   -- ---- steps due
 
@@ -70,9 +96,8 @@ module _ (q : State) (inv : Inv q) where
   module _ (due : q .executed < q .stacked) where
     pub top-slot : IsSlot (topSlot q)
     top-slot =
-        let long = length-take-le (q .stacked) (q .stack) (omega (arith, inv .counts, inv .lengths)) in
         rw (getD-take (q .stacked) (q .stack) (q .stacked - 1) 0 (omega arith)) at
-        (all-at IsSlot (boardSlots q) (q .stacked - 1) 0 (inv .board-slots) (omega arith))
+        (all-at IsSlot (boardSlots q) (q .stacked - 1) 0 (inv .board-slots) (omega (arith, length-board-slots)))
 
     -- what is on the board beneath the last
     abbrev pub beneath : List Request
@@ -105,8 +130,8 @@ module _ (q : State) (inv : Inv q) where
 
   pub order-slot : (k : ℕ) → k < q .ordered → IsSlot (getD (q .order) k 0)
   order-slot k h =
-      let long = length-take-le (q .ordered) (q .order) (omega (arith, inv .counts, inv .lengths)) in
-      rw (getD-take (q .ordered) (q .order) k 0 h) at (all-at IsSlot (orderSlots q) k 0 (inv .order-slots) (omega arith))
+      rw (getD-take (q .ordered) (q .order) k 0 h) at
+      (all-at IsSlot (orderSlots q) k 0 (inv .order-slots) (omega (arith, length-order-slots)))
 
   module _ (more : q .executed < q .ordered) where
     pub next-slot : IsSlot (nextSlot q)
@@ -115,9 +140,8 @@ module _ (q : State) (inv : Inv q) where
     pub todo-first : bookOf q .execution .todo ≡ requestOf q (nextSlot q) ∷ drop (suc (q .executed)) (orderOf q)
     unfolding bookOf
     todo-first =
-        let long = length-take-le (q .ordered) (q .order) (omega (arith, inv .counts, inv .lengths)) in
         sym (map-drop (requestOf q) (q .executed) (orderSlots q))
-        ∙ ap (requestsAt q) (drop-cons (orderSlots q) (q .executed) 0 (omega arith))
+        ∙ ap (requestsAt q) (drop-cons (orderSlots q) (q .executed) 0 (omega (arith, length-order-slots)))
         ∙ rw (getD-take (q .ordered) (q .order) (q .executed) 0 more, map-drop (requestOf q) (suc (q .executed)) (orderSlots q))
 
     -- it stands at its place of the standing order

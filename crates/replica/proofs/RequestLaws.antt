@@ -1,11 +1,10 @@
--- Requests at slots: two of them compared, the standing order as a list of them, and what is held under a number.
+-- Requests at slots: two of them compared, and what is held under a number.
 use Prim.Native.Nat.{ℕ}
 use native.Mathlib.Omega.{arith}
 use mathlib.Core.Path.{_≡_, refl, sym, ap, _∙_}
 use mathlib.Core.Bool.{true, false}
 use mathlib.Core.List.{List}
 use mathlib.Core.Option.{none, some, Option·map}
-use lib.ListN.{take-append-drop}
 use lib.Seq.{slice}
 use lib.Dec.{eqb}
 use borrow.Author.Tests.{eqb-true, eq-eqb}
@@ -27,7 +26,8 @@ use Rattle.slots.proofs.SlotLaws.{same-slot}
 use Rattle.creek.specs.Plan.{order, hasNumber, held}
 use Rattle.replica.specs.declared.Body.{Body}
 use Rattle.replica.specs.declared.State.{State}
-use Rattle.replica.specs.Model.{requestAt, orderSlots, orderOf, planOf, Inv}
+use Rattle.replica.specs.Model.{requestAt, orderSlots, planOf, Inv}
+use Rattle.replica.proofs.ModelLaws.{order-planned}
 
 module _ (clocks : List ℕ) (bodies : List Body) where
   -- the requests at two slots are equal exactly where the slots are
@@ -55,11 +55,6 @@ module _ (clocks : List ℕ) (bodies : List Body) where
 -- the slots of the tentative requests
 abbrev pub tentativeSlots : State → List ℕ
 tentativeSlots p = slice (p .committed) (p .ordered) (p .order)
-
--- the standing order of the plan is that of the state
-pub order-planned : (p : State) → order (planOf p) ≡ orderOf p
-unfolding planOf
-order-planned p = take-append-drop (p .committed) (orderOf p)
 
 module _ (p : State) (inv : Inv p) (n : Number) (good : GoodNumber mostPanels n) where
   abbrev at : ℕ → Request

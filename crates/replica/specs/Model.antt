@@ -1,11 +1,10 @@
 -- The state as a replica of `creek`: the map, the invariant that fresh establishes and every call keeps, and what a call promises.
-use Prim.Native.Nat.{ℕ, _+_, _≤_, _<_}
+use Prim.Native.Nat.{ℕ, _≤_, _<_}
 use mathlib.Core.Path.{_≡_}
-use mathlib.Core.Bool.{Bool, true, false}
+use mathlib.Core.Bool.{true, false}
 use mathlib.Core.List.{List, [], map}
 use lib.ListN.{length, take, drop, getD}
 use lib.Dec.{eqb}
-use Rattle.request.specs.declared.Context.{Context}
 use Rattle.request.specs.declared.Number.{Number}
 use Rattle.request.specs.declared.Operation.{Operation}
 use Rattle.request.specs.declared.Request.{Request}
@@ -39,15 +38,19 @@ noBody = record { operation = record { code = 0; r = 0; q = 0; amount = 0 }; str
 abbrev pub bodyAt : List Body → ℕ → Body
 bodyAt bodies slot = getD bodies slot noBody
 
+-- the request of that number and clock reading, of which that body is kept
+abbrev pub withBody : Number → ℕ → Body → Request
+withBody n clock body = record {
+  number = n;
+  clock = clockReading clock;
+  operation = body .operation;
+  strong = body .strong;
+  context = body .context;
+}
+
 -- the request at a slot
 unfoldable pub requestAt : List ℕ → List Body → ℕ → Request
-requestAt clocks bodies slot = record {
-  number = numberOf slot;
-  clock = clockReading (getD clocks slot 0);
-  operation = bodyAt bodies slot .operation;
-  strong = bodyAt bodies slot .strong;
-  context = bodyAt bodies slot .context;
-}
+requestAt clocks bodies slot = withBody (numberOf slot) (getD clocks slot 0) (bodyAt bodies slot)
 
 -- the requests at those slots
 abbrev pub requestsAt : State → List ℕ → List Request

@@ -1,9 +1,12 @@
-// The calls that bring a request, invoke and deliver, and how one enters the state.
+// The calls that bring a request, invoke and deliver.
+//
+// The statements by which a request enters the state stand in both: a function that both call would copy the state twice more.
 use super::Body;
 use super::Called;
 use super::State;
 use super::refused;
 use super::reply;
+use super::with_body;
 use creek::Answer;
 use creek::Invocation;
 use creek::mark::NOBODY;
@@ -28,10 +31,10 @@ ghost use Rattle.creek.specs.Plan.{knownWith, heldRefusal};
 ghost use Rattle.creek.specs.Book.{invoke as invokeCall, deliver as deliverCall};
 ghost use Rattle.creek.specs.Replies.{spread as spreadAnswer, done as doneAnswer};
 ghost use Rattle.replica.specs.Model.{Inv, Kept};
-ghost use Rattle.replica.specs.Entering.{Asked, contextFor, judged, withBody, bodyOf, Enters, Entered};
+ghost use Rattle.replica.specs.Entering.{Asked, contextFor, requestFor, judged, bodyOf};
 
-// A request is made: it awaits a reply, and is to be spread to the other panels.
-pub fn invoke(p: State, i: Invocation) -> Called
+// A request is made: it enters as one that is heard does, awaits a reply, and is to be spread to the other panels.
+pub fn invoke(mut p: State, i: Invocation) -> Called
     requires { ⌜ Inv p ⌝ }
     ensures { λ r. ⌜ Kept p (invokeCall i) r ⌝ }
 {
@@ -46,31 +49,25 @@ pub fn invoke(p: State, i: Invocation) -> Called
         event: EventNo(event),
     };
     let slot = numbers::slot_of(number);
-    let context = context_for(
-        i,
-        p.known,
-        &p.clocks,
-        &p.order,
-        p.committed,
-        p.ordered,
-        slot,
-    );
+    let s = slot as usize;
+    let n = p.ordered;
+    let context = context_for(i, p.known, &p.clocks, &p.order, p.committed, n, slot);
+    let x = request_for(number, i, context);
+    let body = body_of(x);
     let clock = i.clock;
-    let operation = i.operation;
-    let x = Request {
-        number,
-        clock,
-        operation,
-        strong: i.strong,
-        context,
-    };
-    let awaiting = sets::join(p.awaiting, number);
-    let mut q = enter(p, x);
-    q.awaiting = awaiting;
-    q.events = event;
-    q.clock = clock;
+    let at = insertion::place(&p.clocks, &p.order, p.committed, n, clock.0, slot);
+    p.held = sets::join(p.held, number);
+    p.known = known_with(p.known, i.strong, number);
+    p.clocks[s] = clock.0;
+    p.bodies[s] = body;
+    insertion::insert_at(&mut p.order, n, at, slot);
+    p.ordered = n + 1;
+    p.executed = common::common_start(&p.stack, p.executed, &p.order, p.ordered, 0);
+    p.awaiting = sets::join(p.awaiting, number);
+    p.events = event;
+    p.clock = clock;
     let answer = spread(x);
-    Called { answer, state: q }
+    Called { answer, state: p }
 }
 
 // The refusals of an invocation after an own request of that clock reading and event: bad operation, clock back, shift full.
@@ -109,6 +106,21 @@ fn context_for<'a>(
     sets::empty()
 }
 
+// The request of that number that i asks for, with that context.
+fn request_for(number: Number, i: Invocation, context: Context) -> Request
+    ensures { λ x. ⌜ x ≡ requestFor number i context ⌝ }
+{
+    let clock = i.clock;
+    let operation = i.operation;
+    Request {
+        number,
+        clock,
+        operation,
+        strong: i.strong,
+        context,
+    }
+}
+
 // The answer that x is to be spread.
 fn spread(x: Request) -> Answer
     ensures { λ a. ⌜ a ≡ spreadAnswer x ⌝ }
@@ -125,8 +137,8 @@ fn spread(x: Request) -> Answer
     }
 }
 
-// A request of another panel is heard.
-pub fn deliver(p: State, x: Request) -> Called
+// A request of another panel is heard: it enters at its place of the order, and what is executed behind that place is to be rolled back.
+pub fn deliver(mut p: State, x: Request) -> Called
     requires { ⌜ Inv p ⌝ }
     ensures { λ r. ⌜ Kept p (deliverCall x) r ⌝ }
 {
@@ -136,18 +148,27 @@ pub fn deliver(p: State, x: Request) -> Called
         return Called { answer, state: p };
     }
     let number = x.number;
+    let slot = numbers::slot_of(number);
+    let s = slot as usize;
     if sets::member(p.held, number) {
-        let slot = numbers::slot_of(number);
-        let i = slot as usize;
-        let body = p.bodies[i];
-        let clock = p.clocks[i];
-        let held = with_body(number, clock, body);
+        let kept = p.bodies[s];
+        let clock = p.clocks[s];
+        let held = with_body(number, clock, kept);
         let answer = refused(held_refusal(held, x));
         return Called { answer, state: p };
     }
-    let state = enter(p, x);
+    let n = p.ordered;
+    let body = body_of(x);
+    let at = insertion::place(&p.clocks, &p.order, p.committed, n, x.clock.0, slot);
+    p.held = sets::join(p.held, number);
+    p.known = known_with(p.known, x.strong, number);
+    p.clocks[s] = x.clock.0;
+    p.bodies[s] = body;
+    insertion::insert_at(&mut p.order, n, at, slot);
+    p.ordered = n + 1;
+    p.executed = common::common_start(&p.stack, p.executed, &p.order, p.ordered, 0);
     let answer = done();
-    Called { answer, state }
+    Called { answer, state: p }
 }
 
 // The refusals of a delivery that do not ask what is held: bad number, own echo, bad operation, bad context.
@@ -179,21 +200,6 @@ fn held_refusal(y: Request, x: Request) -> u8
     refusal::NUMBER_CLASH
 }
 
-// The request of that number and clock reading, of which that body is kept.
-fn with_body(number: Number, clock: u32, body: Body) -> Request
-    ensures { λ x. ⌜ x ≡ withBody number clock body ⌝ }
-{
-    let operation = body.operation;
-    let context = body.context;
-    Request {
-        number,
-        clock: Clock(clock),
-        operation,
-        strong: body.strong,
-        context,
-    }
-}
-
 // The answer of an accepted call that names no request.
 fn done() -> Answer
     ensures { λ a. ⌜ a ≡ doneAnswer ⌝ }
@@ -203,34 +209,6 @@ fn done() -> Answer
         event: EventNo(0),
     };
     reply(none, 0, NOBODY)
-}
-
-// p with x, which it does not hold yet, at its place of the order; what is executed behind that place is to be rolled back.
-fn enter(p: State, x: Request) -> State
-    requires { ⌜ Inv p ⌝ }
-    requires { ⌜ Enters p x ⌝ }
-    ensures { λ q. ⌜ Entered p x q ⌝ }
-{
-    let number = x.number;
-    let slot = numbers::slot_of(number);
-    let s = slot as usize;
-    let clock = x.clock.0;
-    let known = known_with(p.known, x.strong, number);
-    let body = body_of(x);
-    let n = p.ordered;
-    let committed = p.committed;
-    let executed = p.executed;
-    let mut q = p;
-    let at = insertion::place(&q.clocks, &q.order, committed, n, clock, slot);
-    q.held = sets::join(q.held, number);
-    q.clocks[s] = clock;
-    q.bodies[s] = body;
-    insertion::insert_at(&mut q.order, n, at, slot);
-    q.ordered = n + 1;
-    q.known = known;
-    let kept = common::common_start(&q.stack, executed, &q.order, n + 1, 0);
-    q.executed = kept;
-    q
 }
 
 // The known set after a request of that strength and number has entered.

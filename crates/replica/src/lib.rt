@@ -31,7 +31,7 @@ ghost use mathlib.Core.Path.{_≡_};
 ghost use Rattle.request.specs.Numbers.{noNumber};
 ghost use Rattle.creek.specs.Calls.{badShop};
 ghost use Rattle.creek.specs.Replies.{noRequest, refusedWith, reply as replyOf};
-ghost use Rattle.replica.specs.Model.{GoodShop, Empty, Fresh};
+ghost use Rattle.replica.specs.Model.{withBody, GoodShop, Empty, Fresh};
 
 // What is kept of a request beside its number and its clock reading.
 pub struct Body {
@@ -70,10 +70,10 @@ pub struct Opened {
     pub state: State,
 }
 
-// What a call returns: its answer and the state after it.
+// What a call returns: the state after it and its answer. With the state first, a refused call copies it straight to the result.
 pub struct Called {
-    pub answer: Answer,
     pub state: State,
+    pub answer: Answer,
 }
 
 // A reply that fell due: its request's number, the response and the mark.
@@ -193,6 +193,21 @@ fn no_request() -> Request
         },
         strong: false,
         context: sets::empty(),
+    }
+}
+
+// The request of that number and clock reading, of which that body is kept.
+fn with_body(number: Number, clock: u32, body: Body) -> Request
+    ensures { λ x. ⌜ x ≡ withBody number clock body ⌝ }
+{
+    let operation = body.operation;
+    let context = body.context;
+    Request {
+        number,
+        clock: Clock(clock),
+        operation,
+        strong: body.strong,
+        context,
     }
 }
 

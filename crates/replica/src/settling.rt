@@ -25,7 +25,7 @@ ghost use Rattle.replica.specs.Model.{Inv, Kept};
 ghost use Rattle.replica.specs.Settling.{numberRefusal, heldAnswer, settledAnswer, awaitingSettled};
 
 // Settle the request of number n.
-pub fn commit(p: State, n: Number) -> Called
+pub fn commit(mut p: State, n: Number) -> Called
     requires { ⌜ Inv p ⌝ }
     ensures { λ r. ⌜ Kept p (commitCall n) r ⌝ }
 {
@@ -40,26 +40,25 @@ pub fn commit(p: State, n: Number) -> Called
     if answer.refusal != refusal::ACCEPTED {
         return Called { answer, state: p };
     }
-    let mut q = p;
-    let from = q.committed;
-    let to = q.ordered;
+    let from = p.committed;
+    let to = p.ordered;
     let context = body.context;
     let words = context.words;
-    let committed = settlement::settle_order(&mut q.order, from, to, &words, slot);
-    let done = q.executed;
-    let executed = common::common_start(&q.stack, done, &q.order, to, 0);
+    let committed = settlement::settle_order(&mut p.order, from, to, &words, slot);
+    let done = p.executed;
+    let executed = common::common_start(&p.stack, done, &p.order, to, 0);
     // The request is the last committed: it stays executed where the mark lies behind it, and its response was kept at its place.
-    let response = q.responses[committed - 1];
-    let awaited = sets::member(q.awaiting, n);
+    let response = p.responses[committed - 1];
+    let awaited = sets::member(p.awaiting, n);
     let due = awaited & (committed <= executed);
-    q.committed = committed;
-    q.executed = executed;
-    q.known = sets::join(q.known, n);
-    q.awaiting = awaiting_settled(due, q.awaiting, n);
-    q.commits = q.commits + 1;
+    p.committed = committed;
+    p.executed = executed;
+    p.known = sets::join(p.known, n);
+    p.awaiting = awaiting_settled(due, p.awaiting, n);
+    p.commits = p.commits + 1;
     Called {
         answer: settled_answer(due, response),
-        state: q,
+        state: p,
     }
 }
 

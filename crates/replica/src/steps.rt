@@ -13,7 +13,6 @@ use request::numbers;
 use request::refusal;
 use request::sets;
 ghost use mathlib.Core.Path.{_≡_};
-ghost use Prim.Native.Nat.{_+_, _≤_, _<_};
 ghost use Rattle.creek.specs.Book.{undo as undoCall, execute as executeCall};
 ghost use Rattle.creek.specs.Replies.{awaitingAfter, markOf};
 ghost use Rattle.replica.specs.Model.{Inv, Kept};
