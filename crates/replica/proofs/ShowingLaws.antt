@@ -5,7 +5,7 @@ use mathlib.Core.Path.{_≡_, refl, sym, ap, _∙_}
 use mathlib.Core.Bool.{true, false, _||_}
 use mathlib.Core.List.{List}
 use lib.ListN.{length, getD, List·getD-map}
-use lib.Seq.{getD-take}
+use lib.Seq.{getD-take, length-take-le}
 use lib.Dec.{eqb, ltb}
 use borrow.Author.Tests.{eqb-false, ltb-false, lt-ltb, le-ltb}
 use Rattle.lists.proofs.BoolLaws.{neither-true}
@@ -14,10 +14,11 @@ use Rattle.request.specs.Operations.{lastRegister}
 use Rattle.request.specs.Refusal as refused
 use Rattle.creek.specs.Plan.{order}
 use Rattle.creek.specs.Replies.{noRequest}
-use Rattle.creek.specs.Showing.{registerRefusal, registerShown, requestsShown, commitsShown, undosShown, executionsShown, owedShown, placeRefusal, placeShown}
+use Rattle.creek.specs.Showing.{registerRefusal, registerShown, requestsShown, commitsShown, undosShown, executionsShown, owedShown}
+use Rattle.creek.specs.Showing.{placeRefusal, placeShown}
 use Rattle.replica.specs.declared.State.{State}
-use Rattle.replica.specs.Model.{orderSlots, orderOf, model, Inv}
-use Rattle.replica.specs.Shown.{RegisterShown, PlaceShown}
+use Rattle.replica.specs.Model.{orderSlots, orderOf, planOf, bookOf, model, Inv}
+use Rattle.replica.specs.Shown.{RegisterShown, registersShown, committedShown, PlaceShown}
 use Rattle.replica.proofs.ModelLaws.{requestOf, length-order, order-is, rollback-length, todo-length}
 use Rattle.lists.proofs.StartLaws.{getD-inside}
 use Rattle.replica.proofs.ExecuteLaws.{registers-are}
@@ -28,6 +29,11 @@ module _ (p : State) (inv : Inv p) where
   pub requests-are : p .ordered ≡ requestsShown (model p)
   unfolding model
   requests-are = sym (ap length (order-is p inv) ∙ length-order p inv)
+
+  pub committed-are : p .committed ≡ committedShown (model p)
+  unfolding model bookOf planOf
+  committed-are =
+      sym (length-take-le (p .committed) (orderOf p) (omega (arith, inv .counts .committed, length-order p inv)))
 
   pub commits-are : p .commits ≡ commitsShown (model p)
   unfolding model
@@ -45,7 +51,11 @@ module _ (p : State) (inv : Inv p) where
   unfolding model
   owed-are = omega (arith, rollback-length p inv, todo-length p inv)
 
-  -- ---- a register
+  -- ---- registers
+
+  pub all-registers-are : p .registers ≡ registersShown (model p)
+  unfolding model
+  all-registers-are = sym (registers-are p inv)
 
   pub register-refused : (k : ℕ) → lastRegister < k → RegisterShown p k (record { refusal = refused.badOperation; value = 0 })
   unfolding registerRefusal registerShown

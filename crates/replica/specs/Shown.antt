@@ -1,10 +1,11 @@
--- What the showing calls that may be refused promise.
+-- What the showing calls that may be refused promise, and what those show that are not document 01's.
 use Prim.Native.Nat.{ℕ}
 use mathlib.Core.Path.{_≡_}
+use mathlib.Core.List.{List}
+use lib.ListN.{length}
+use Rattle.creek.specs.Calls.{Replica}
+use Rattle.creek.specs.Execution.{registers}
 use Rattle.creek.specs.Showing.{registerRefusal, registerShown, placeRefusal, placeShown}
-use Rattle.request.specs.declared.Request.{Request}
-use Rattle.request.specs.Numbers.{numberOf, clockReading}
-use Rattle.replica.specs.declared.Body.{Body}
 use Rattle.replica.specs.declared.State.{State}
 use Rattle.replica.specs.declared.RegisterValue.{RegisterValue}
 use Rattle.replica.specs.declared.PlacedRequest.{PlacedRequest}
@@ -15,15 +16,13 @@ pub record RegisterShown (p : State) (k : ℕ) (r : RegisterValue) : Type 0 wher
   pub refusal : r .refusal ≡ registerRefusal k
   pub value : r .value ≡ registerShown (model p) k
 
--- the request of those parts, as the state keeps them
-abbrev pub keptRequest : ℕ → ℕ → Body → Request
-keptRequest slot clock body = record {
-  number = numberOf slot;
-  clock = clockReading clock;
-  operation = body .operation;
-  strong = body .strong;
-  context = body .context;
-}
+-- the values of all registers
+abbrev pub registersShown : Replica → List ℕ
+registersShown r = registers (r .book .execution)
+
+-- the length of the settled list
+abbrev pub committedShown : Replica → ℕ
+committedShown r = length (r .book .plan .committed)
 
 -- the request at a place of the standing order, or refusal 9 with a request of zeros
 pub record PlaceShown (p : State) (place : ℕ) (r : PlacedRequest) : Type 0 where

@@ -1,18 +1,16 @@
 // The showing calls, which change nothing.
-use super::Body;
 use super::PlacedRequest;
 use super::RegisterValue;
 use super::State;
 use super::no_request;
-use request::Clock;
-use request::Request;
+use super::with_body;
 use request::numbers;
 use request::operations;
 use request::refusal;
 ghost use mathlib.Core.Path.{_≡_};
 ghost use Rattle.creek.specs.Showing.{requestsShown, commitsShown, undosShown, executionsShown, owedShown};
 ghost use Rattle.replica.specs.Model.{Inv, model};
-ghost use Rattle.replica.specs.Shown.{RegisterShown, keptRequest, PlaceShown};
+ghost use Rattle.replica.specs.Shown.{RegisterShown, registersShown, committedShown, PlaceShown};
 
 // The value of register k.
 pub fn register(p: State, k: u8) -> RegisterValue
@@ -32,12 +30,28 @@ pub fn register(p: State, k: u8) -> RegisterValue
     }
 }
 
+// The values of all registers.
+pub fn registers(p: State) -> [u32; 64]
+    requires { ⌜ Inv p ⌝ }
+    ensures { λ values. ⌜ values ≡ registersShown (model p) ⌝ }
+{
+    p.registers
+}
+
 // The count of accepted requests.
 pub fn requests(p: State) -> usize
     requires { ⌜ Inv p ⌝ }
     ensures { λ n. ⌜ n ≡ requestsShown (model p) ⌝ }
 {
     p.ordered
+}
+
+// The length of the settled list.
+pub fn committed(p: State) -> usize
+    requires { ⌜ Inv p ⌝ }
+    ensures { λ n. ⌜ n ≡ committedShown (model p) ⌝ }
+{
+    p.committed
 }
 
 // The count of accepted settlements.
@@ -87,25 +101,10 @@ pub fn at_place(p: State, place: usize) -> PlacedRequest
     let slot = p.order[place - 1];
     let clock = p.clocks[slot as usize];
     let body = p.bodies[slot as usize];
-    let request = kept_request(slot, clock, body);
+    let number = numbers::number_of(slot);
+    let request = with_body(number, clock, body);
     PlacedRequest {
         refusal: refusal::ACCEPTED,
         request,
-    }
-}
-
-// The request at a slot, from what is kept of it.
-fn kept_request(slot: u16, clock: u32, body: Body) -> Request
-    ensures { λ x. ⌜ x ≡ keptRequest slot clock body ⌝ }
-{
-    let number = numbers::number_of(slot);
-    let operation = body.operation;
-    let context = body.context;
-    Request {
-        number,
-        clock: Clock(clock),
-        operation,
-        strong: body.strong,
-        context,
     }
 }

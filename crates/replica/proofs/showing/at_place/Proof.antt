@@ -49,14 +49,17 @@ mul-body c = omega (arith, slot (c .before .before))
 element-copy-out-body : tie.Need-element-copy-out-body
 element-copy-out-body c = slot (c .before .before)
 
-kept-request-requires : tie.Need-kept-request-requires
-kept-request-requires c κs = search needs
+number-of-requires : tie.Need-number-of-requires
+number-of-requires c κs = search needs
+
+with-body-requires : tie.Need-with-body-requires
+with-body-requires c κs = search needs
 
 returns-2 : tie.Need-returns-2
 unfolding requestAt
 returns-2 c =
-    let else = c .before .before .before .before in
-    place-shown _ (else .before .pre) _ _ (else .if1 .left) (c .kept-request .ensures)
+    let else = c .before .before .before .before .before in
+    place-shown _ (else .before .pre) _ _ (else .if1 .left) (rw (← c .before .number-of .ensures) (c .with-body .ensures))
 
 pub at-place-spec : {M : Type 1} → statement M
 at-place-spec =
@@ -73,5 +76,6 @@ at-place-spec =
     cast-body
     mul-body
     element-copy-out-body
-    kept-request-requires
+    number-of-requires
+    with-body-requires
     returns-2)
