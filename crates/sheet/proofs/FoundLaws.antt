@@ -5,7 +5,6 @@ use mathlib.Core.List.{List, [], _∷_}
 use native.Mathlib.Nat.{add-zero, sub-zero}
 use native.Mathlib.Omega.{arith}
 use lib.ListN.{length}
-use Rattle.wire.specs.declared.Reading.{Reading}
 use Rattle.wire.specs.declared.Kind.the-variants.{Settlement}
 use Rattle.wire.specs.Layout.{sizeOf, layout, size}
 use Rattle.wire.specs.Reader.{Outcome, message, end, refused, answered, readAt}

@@ -1,6 +1,5 @@
--- The laws behind `print`, from what is found in the bytes to the whole printout.
+-- The laws behind `print`, from what is found in the bytes to the whole printout, and document 01's worked printout.
 pub mod FoundLaws
-pub mod BoardLaws
-pub mod PlaceLaws
-pub mod RegisterLaws
+pub mod UndoLaws
 pub mod PuttingLaws
+pub mod Worked

@@ -1,23 +1,24 @@
 -- Laws of hearing and putting, in this order: what an answer of the reader stands for; a message that is taken in; lines; the loop over
 -- all that is found; the whole printout.
-use Prim.Native.Nat.{ℕ, zero, suc, _+_, _*_, _-_, _≤_, _<_, _^_}
+use Prim.Native.Nat.{ℕ, suc, _+_, _*_, _-_, _≤_, _<_, _^_}
 use mathlib.Core.Path.{_≡_, refl, sym, ap, _∙_, subst}
 use mathlib.Core.Bool.{Bool, true, false}
-use mathlib.Core.List.{List, [], _∷_, _++_}
+use mathlib.Core.List.{List, _++_}
 use native.Mathlib.Numerals.{add-one}
 use native.Mathlib.Omega.{arith}
-use lib.ListN.{length, getD, take}
+use lib.ListN.{length, getD}
 use borrow.Author.Tests.{lt-ltb, le-ltb}
 use Rattle.request.specs.declared.Number.{Number}
 use Rattle.request.specs.Refusal as refusal
-use Rattle.text.specs.Placed.{Room, Written}
+use Rattle.text.specs.Placed.{Written}
 use Rattle.text.proofs.PlacedLaws.{then, Left, left-start, left-step, left-end, nothing}
 use Rattle.report.specs.Lines.{boardLine, refusedLine, messageLine, unreadLine, totalsLine, registerLines}
 use Rattle.report.specs.Sizes.{mostMessageBytes}
-use Rattle.report.proofs.SizeLaws.{message-short, unread-short}
+use Rattle.report.proofs.SizeLaws.{unread-short}
 use Rattle.creek.specs.declared.Answer.{Answer as Reply}
-use Rattle.creek.specs.Plan.{Plan, order}
-use Rattle.creek.specs.Execution.{owed, registers}
+use Rattle.request.specs.Operations.{lastRegister}
+use Rattle.registers.proofs.ReplayLaws.{replay-length}
+use Rattle.creek.specs.Execution.{registers, board, operations}
 use Rattle.creek.specs.Calls.{Replica, badShop, freshRefusal, fresh, step, answer}
 use Rattle.creek.specs.Showing.{undosShown, executionsShown}
 use Rattle.replica.specs.declared.State.{State}
@@ -25,6 +26,7 @@ use Rattle.replica.specs.declared.Called.{Called}
 use Rattle.replica.specs.declared.Ran.{Ran}
 use Rattle.replica.specs.Model.{model, Inv, Kept}
 use Rattle.replica.specs.Due.{RunDue}
+use Rattle.replica.specs.Shown.{registersShown, committedShown}
 use Rattle.wire.specs.declared.Message.{Message}
 use Rattle.wire.specs.declared.Reading.{Reading}
 use Rattle.wire.specs.declared.Answer.{Answer}
@@ -32,17 +34,16 @@ use Rattle.wire.specs.declared.Answer.the-variants.{Message as aMessage, End, R
 use Rattle.wire.specs.declared.Kind.{Kind}
 use Rattle.wire.specs.declared.Kind.the-variants.{Weak, Strong, Settlement}
 use Rattle.wire.specs.Layout.{kindNumber}
-use Rattle.wire.specs.Message.{BusMessage, request, settlement, kindOf, said}
+use Rattle.wire.specs.Message.{BusMessage, kindOf, said}
 use Rattle.wire.specs.Reader.{Outcome, message, end, refused, answered, readAt, refusalOf}
 use Rattle.wire.proofs.HeldLaws.{said-held, said-settlement, said-request}
-use Rattle.sheet.specs.declared.Board.{Board}
 use Rattle.sheet.specs.declared.Heard.{Heard}
 use Rattle.sheet.specs.declared.Ended.{Ended}
 use Rattle.sheet.specs.Sheet.{callOf, idled, after, afterAll, refusalIn, numberIn, lineOfMessage, lineFor, foundFrom, messageLines}
 use Rattle.sheet.specs.Sheet.{shopBytes, leastMessage, mostMessages, mostInput, closing, printoutOf, printout}
-use Rattle.sheet.specs.Putting.{takenOf, settledAfter, Stands, HeardOf, TakenIn, HeardAs, LinePut, AllPut}
+use Rattle.sheet.specs.Putting.{takenOf, Stands, HeardOf, TakenIn, HeardAs, LinePut, AllPut}
 use Rattle.sheet.proofs.FoundLaws.{bytesOf, Takes, whole, all, takes, taken-within, one-found, none-found}
-use Rattle.sheet.proofs.BoardLaws.{undos-grow, down-plan, settled-is}
+use Rattle.sheet.proofs.UndoLaws.{undos-grow}
 
 -- ---- what an answer stands for
 
@@ -75,31 +76,16 @@ module _ (r : Reading) (P : Outcome → Type 0) where
 
 -- ---- a message is taken in
 
-pub taken-in : (b : Board) (m : Message) → Inv (b .state) → b .settled ≡ length (model (b .state) .book .plan .committed)
-    → (c : Called) → Kept (b .state) (callOf (said m)) c
-    → (settled : ℕ) → settled ≡ settledAfter (b .settled) m (c .answer .refusal) (model (c .state))
-    → (ran : Ran) → RunDue (c .state) ran
-    → (before now : ℕ) → before ≡ undosShown (model (b .state)) → now ≡ undosShown (model (ran .state))
-    → TakenIn b (said m) (record { board = record { state = ran .state; settled = settled }; refusal = c .answer .refusal; undone = now - before })
+pub taken-in : (p : State) (m : Message) (c : Called) → Kept p (callOf (said m)) c → (ran : Ran) → RunDue (c .state) ran
+    → (before now : ℕ) → before ≡ undosShown (model p) → now ≡ undosShown (model (ran .state))
+    → TakenIn p (said m) (record { state = ran .state; refusal = c .answer .refusal; undone = now - before })
 unfolding after refusalIn
-taken-in b m inv e c kept settled es ran due before now eb en =
-    let r = model (b .state) in
+taken-in p m c kept ran due before now eb en =
+    let r = model p in
     let done : model (ran .state) ≡ idled (step r (callOf (said m))) = due .state ∙ ap idled (kept .state) in
-    let plan : idled (step r (callOf (said m))) .book .plan ≡ step r (callOf (said m)) .book .plan =
-    down-plan (owed (step r (callOf (said m)) .book .execution)) (step r (callOf (said m))) in
     record {
       heard = λ n. record {
-        board = record {
-          state = done;
-          settled =
-              es
-              ∙ ap (λ (k : ℕ). settledAfter k m (c .answer .refusal) (model (c .state))) e
-              ∙ ap (λ (a : Reply). settledAfter (length (r .book .plan .committed)) m (a .refusal) (model (c .state))) (kept .answer)
-              ∙ ap (settledAfter (length (r .book .plan .committed)) m (answer r (callOf (said m)) .refusal)) (kept .state)
-              ∙ settled-is r m (inv .sound)
-              ∙ ap (λ (a : Plan). length (a .committed)) (sym plan);
-          invariant = due .invariant;
-        };
+        panel = record { state = done; invariant = due .invariant };
         refusal = ap (λ (a : Reply). a .refusal) (kept .answer);
         undone = ap (λ (k : ℕ). now - k) eb ∙ ap (λ (k : ℕ). k - undosShown r) (en ∙ ap undosShown done);
       };
@@ -113,27 +99,27 @@ undos-rise p m c kept ran due =
     ap undosShown (due .state ∙ ap idled (kept .state)) in
     omega (arith, done, undos-grow (model p) (callOf (said m)))
 
--- what cannot be read leaves the board alone
-module _ (b : Board) (r : Reading) (inv : Inv (b .state)) (e : b .settled ≡ length (model (b .state) .book .plan .committed)) where
-  alone : Stands b (model (b .state))
-  alone = record { state = refl; settled = e; invariant = inv }
+-- what cannot be read leaves the panel alone
+module _ (p : State) (r : Reading) (inv : Inv p) where
+  alone : Stands p (model p)
+  alone = record { state = refl; invariant = inv }
 
-  pub heard-end : r .answer ≡ End → HeardAs b r (record { board = b; refusal = refusal.accepted; undone = 0 })
+  pub heard-end : r .answer ≡ End → HeardAs p r (record { state = p; refusal = refusal.accepted; undone = 0 })
   unfolding after refusalIn
   heard-end f = record {
-    heard = end-only r (λ o. HeardOf (model (b .state)) o (record { board = b; refusal = refusal.accepted; undone = 0 })) f
-        (record { board = alone; refusal = refl; undone = omega arith });
+    heard = end-only r (λ o. HeardOf (model p) o (record { state = p; refusal = refusal.accepted; undone = 0 })) f
+        (record { panel = alone; refusal = refl; undone = omega arith });
   }
 
-  pub heard-refused : (w : ℕ) → r .answer ≡ Refused w → HeardAs b r (record { board = b; refusal = w; undone = 0 })
+  pub heard-refused : (w : ℕ) → r .answer ≡ Refused w → HeardAs p r (record { state = p; refusal = w; undone = 0 })
   unfolding after refusalIn
   heard-refused w f = record {
-    heard = refused-only r (λ o. HeardOf (model (b .state)) o (record { board = b; refusal = w; undone = 0 })) w f
-        (record { board = alone; refusal = refl; undone = omega arith });
+    heard = refused-only r (λ o. HeardOf (model p) o (record { state = p; refusal = w; undone = 0 })) w f
+        (record { panel = alone; refusal = refl; undone = omega arith });
   }
 
-pub heard-message : (b : Board) (r : Reading) (h : Heard) → r .answer ≡ aMessage → TakenIn b (said (r .message)) h → HeardAs b r h
-heard-message b r h f t = record { heard = message-only r (λ o. HeardOf (model (b .state)) o h) f (t .heard) }
+pub heard-message : (p : State) (r : Reading) (h : Heard) → r .answer ≡ aMessage → TakenIn p (said (r .message)) h → HeardAs p r h
+heard-message p r h f t = record { heard = message-only r (λ o. HeardOf (model p) o h) f (t .heard) }
 
 -- ---- lines
 
@@ -148,11 +134,14 @@ number-by m true e = rw (said-settlement m e)
 number-by m false e = rw (said-request m e)
 
 pub message-line : (place : ℕ) (m : Message) (kind word undone : ℕ) → kind ≡ kindNumber (kindOf (said m))
-    → lineOfMessage place (said m) word undone ≡ messageLine place kind (m .request .number .panel .0) (m .request .number .event .0) word undone
+    → let n = m .request .number in
+    lineOfMessage place (said m) word undone ≡ messageLine place kind (n .panel .0) (n .event .0) word undone
 unfolding lineOfMessage
 message-line place m kind word undone e =
-    ap (λ (n : Number). messageLine place (kindNumber (kindOf (said m))) (n .panel .0) (n .event .0) word undone) (number-by m (m .settles) refl)
-    ∙ ap (λ (k : ℕ). messageLine place k (m .request .number .panel .0) (m .request .number .event .0) word undone) (sym e)
+    let n = m .request .number in
+    let named = number-by m (m .settles) refl in
+    ap (λ (x : Number). messageLine place (kindNumber (kindOf (said m))) (x .panel .0) (x .event .0) word undone) named
+    ∙ ap (λ (k : ℕ). messageLine place k (n .panel .0) (n .event .0) word undone) (sym e)
 
 module _ (place : ℕ) (r : Reading) (word undone : ℕ) (out : List ℕ) (at : ℕ) where
   pub put-message-line : (out′ : List ℕ) (behind : ℕ) → r .answer ≡ aMessage
@@ -182,46 +171,38 @@ module _ (place : ℕ) (r : Reading) (word undone : ℕ) (out : List ℕ) (at : 
 -- ---- the loop
 
 -- what was put and heard up to a place, where what is left to do from there is the whole job
-pub record Putting (r : Replica) (s out : List ℕ) (from : ℕ) (out₁ : List ℕ) (b : Board) (at behind place : ℕ) : Type 0 where
+pub record Putting (r : Replica) (s out : List ℕ) (from : ℕ) (out₁ : List ℕ) (p : State) (at behind place : ℕ) : Type 0 where
   pub inside : at ≤ length s
-  pub board : Stands b (model (b .state))
-  pub state : afterAll (model (b .state)) (foundFrom s at) ≡ afterAll r (foundFrom s shopBytes)
-  pub lines : Left out from (messageLines 1 r (foundFrom s shopBytes)) out₁ behind (messageLines place (model (b .state)) (foundFrom s at))
+  pub invariant : Inv p
+  pub state : afterAll (model p) (foundFrom s at) ≡ afterAll r (foundFrom s shopBytes)
+  pub lines : Left out from (messageLines 1 r (foundFrom s shopBytes)) out₁ behind (messageLines place (model p) (foundFrom s at))
   pub few : behind + mostMessageBytes ≤ from + place * mostMessageBytes
   -- each message but the last took the bytes of the shortest
   pub paced : leastMessage * place + shopBytes ≤ at + leastMessage + leastMessage
   pub whole-so-far : at < length s → leastMessage * place + shopBytes ≤ at + leastMessage
 
-pub stands-itself : (b : Board) (r : Replica) → Stands b r → Stands b (model (b .state))
-stands-itself b r st = record {
-  state = refl;
-  settled = st .settled ∙ ap (λ (q : Replica). length (q .book .plan .committed)) (sym (st .state));
-  invariant = st .invariant;
-}
-
-pub put-start : (s out : List ℕ) (from : ℕ) (b : Board) → Stands b (model (b .state)) → shopBytes ≤ length s
-    → Putting (model (b .state)) s out from out b shopBytes from 1
-put-start s out from b st h = record {
+pub put-start : (s out : List ℕ) (from : ℕ) (p : State) → Inv p → shopBytes ≤ length s → Putting (model p) s out from out p shopBytes from 1
+put-start s out from p inv h = record {
   inside = h;
-  board = st;
+  invariant = inv;
   state = refl;
-  lines = left-start out from (messageLines 1 (model (b .state)) (foundFrom s shopBytes));
+  lines = left-start out from (messageLines 1 (model p) (foundFrom s shopBytes));
   few = omega arith;
   paced = omega arith;
   whole-so-far = λ l. omega arith;
 }
 
-module _ (r : Replica) (s out : List ℕ) (from : ℕ) (out₁ : List ℕ) (b : Board) (at behind place : ℕ) (below : at < length s)
-    (put : Putting r s out from out₁ b at behind place) where
+module _ (r : Replica) (s out : List ℕ) (from : ℕ) (out₁ : List ℕ) (p : State) (at behind place : ℕ) (below : at < length s)
+    (put : Putting r s out from out₁ p at behind place) where
   pub line-room : from + mostMessages * mostMessageBytes ≤ length out → length s ≤ mostInput
       → (behind + mostMessageBytes ≤ length out₁) × (place ≤ mostInput)
   line-room room low =
-      let f = put .few in
-      let p = put .whole-so-far below in
-      (omega (arith, f, p, put .lines .size), omega (arith, p))
+      let pace = put .whole-so-far below in
+      (omega (arith, put .few, pace, put .lines .size), omega (arith, pace))
 
-  module _ (x : Reading) (ex : x ≡ answered (readAt s at)) (h : Heard) (heard : HeardAs b x h) (n : ℕ) (en : n ≡ takenOf x (length s - at)) where
-    st : HeardOf (model (b .state)) (readAt s at) h
+  module _ (x : Reading) (ex : x ≡ answered (readAt s at)) (h : Heard) (heard : HeardAs p x h)
+      (n : ℕ) (en : n ≡ takenOf x (length s - at)) where
+    st : HeardOf (model p) (readAt s at) h
     st = heard .heard (readAt s at) ex
 
     n-is : n ≡ bytesOf (readAt s at) (length s - at)
@@ -231,9 +212,9 @@ module _ (r : Replica) (s out : List ℕ) (from : ℕ) (out₁ : List ℕ) (b : 
     n-within = rw n-is (taken-within (length s - at) _ (takes s at below) (omega arith))
 
     now-next : Left out from (messageLines 1 r (foundFrom s shopBytes)) out₁ behind
-        (lineFor place (readAt s at) (h .refusal) (h .undone) ++ messageLines (place + 1) (model (h .board .state)) (foundFrom s (at + n)))
+        (lineFor place (readAt s at) (h .refusal) (h .undone) ++ messageLines (place + 1) (model (h .state)) (foundFrom s (at + n)))
     unfolding messageLines
-    now-next = rw (add-one, st .board .state, st .refusal, st .undone, n-is) (rw (one-found s at below) at (put .lines))
+    now-next = rw (add-one, st .panel .state, st .refusal, st .undone, n-is) (rw (one-found s at below) at (put .lines))
 
     paced-on : Takes (length s - at) n → leastMessage * place + shopBytes ≤ at + leastMessage
         → (leastMessage * (place + 1) + shopBytes ≤ at + n + leastMessage + leastMessage)
@@ -242,32 +223,28 @@ module _ (r : Replica) (s out : List ℕ) (from : ℕ) (out₁ : List ℕ) (b : 
     paced-on (all e) p = (omega arith, λ q. absurd (omega arith))
 
     pub put-step : (out₂ : List ℕ) (behind₂ : ℕ) → LinePut place x (h .refusal) (h .undone) out₁ behind out₂ behind₂
-        → Putting r s out from out₂ (h .board) (at + n) behind₂ (place + 1)
+        → Putting r s out from out₂ (h .state) (at + n) behind₂ (place + 1)
     unfolding afterAll
     put-step out₂ behind₂ w =
         let v = n-within in
         let pace = paced-on (rw n-is (takes s at below)) (put .whole-so-far below) in
         record {
           inside = omega (arith, v .1);
-          board = stands-itself (h .board) _ (st .board);
-          state = rw (st .board .state, n-is) (rw (one-found s at below) at (put .state));
-          lines = left-step (messageLines (place + 1) (model (h .board .state)) (foundFrom s (at + n))) (w .written (readAt s at) ex) now-next;
+          invariant = st .panel .invariant;
+          state = rw (st .panel .state, n-is) (rw (one-found s at below) at (put .state));
+          lines = left-step (messageLines (place + 1) (model (h .state)) (foundFrom s (at + n))) (w .written (readAt s at) ex) now-next;
           few = omega (arith, put .few, w .few);
           paced = pace .0;
           whole-so-far = pace .1;
         }
 
-pub put-end : (r : Replica) (s out : List ℕ) (from : ℕ) (out₁ : List ℕ) (b : Board) (at behind place : ℕ) → length s ≤ at
-    → length s ≤ mostInput → Putting r s out from out₁ b at behind place → AllPut r s out from out₁ (record { board = b; behind = behind })
+pub put-end : (r : Replica) (s out : List ℕ) (from : ℕ) (out₁ : List ℕ) (p : State) (at behind place : ℕ) → length s ≤ at
+    → length s ≤ mostInput → Putting r s out from out₁ p at behind place → AllPut r s out from out₁ (record { state = p; behind = behind })
 unfolding afterAll messageLines
-put-end r s out from out₁ b at behind place h low put =
-    let state : model (b .state) ≡ afterAll r (foundFrom s shopBytes) = rw (none-found s at h) at (put .state) in
+put-end r s out from out₁ p at behind place h low put =
+    let state : model p ≡ afterAll r (foundFrom s shopBytes) = rw (none-found s at h) at (put .state) in
     record {
-      board = record {
-        state = state;
-        settled = put .board .settled ∙ ap (λ (q : Replica). length (q .book .plan .committed)) state;
-        invariant = put .board .invariant;
-      };
+      panel = record { state = state; invariant = put .invariant };
       lines = left-end (rw (none-found s at h) at (put .lines));
       few = omega (arith, put .few, put .paced, put .inside);
     }
@@ -289,9 +266,13 @@ pub printout-good : (s : List ℕ) → shopBytes ≤ length s → badShop (getD 
 unfolding printout printoutOf
 printout-good s h e = rw (le-ltb (length s) shopBytes h, e)
 
-pub closing-is : (r : Replica) (settled unsettled undone carried : ℕ) (values : List ℕ) → settled ≡ length (r .book .plan .committed)
+pub registers-count : (r : Replica) → length (registersShown r) ≡ suc lastRegister
+unfolding registers
+registers-count r = replay-length (operations (board (r .book .execution)))
+
+pub closing-is : (r : Replica) (settled unsettled undone carried : ℕ) (values : List ℕ) → settled ≡ committedShown r
     → unsettled ≡ length (r .book .plan .tentative) → undone ≡ undosShown r → carried ≡ executionsShown r
-    → values ≡ registers (r .book .execution) → closing r ≡ totalsLine settled unsettled undone carried ++ registerLines values
+    → values ≡ registersShown r → closing r ≡ totalsLine settled unsettled undone carried ++ registerLines values
 unfolding closing
 closing-is r settled unsettled undone carried values e f g h k = rw (e, f, g, h, k)
 
@@ -315,31 +296,17 @@ opened-by panels own w false e f h = refl
 pub fresh-good : (panels own w : ℕ) → w ≡ freshRefusal panels own → w ≡ refusal.accepted → badShop panels own ≡ false
 fresh-good panels own w f h = opened-by panels own w (badShop panels own) refl f h
 
-settled-by : (panels own : ℕ) (v : Bool) → badShop panels own ≡ v → length (fresh panels own .book .plan .committed) ≡ 0
-unfolding fresh
-settled-by panels own true e = rw e
-settled-by panels own false e = rw e
-
--- a fresh board has settled nothing
-pub fresh-stands : (panels own : ℕ) (q : State) → model q ≡ fresh panels own → Inv q
-    → Stands (record { state = q; settled = 0 }) (model q)
-fresh-stands panels own q e inv = record {
-  state = refl;
-  settled = sym (ap (λ (r : Replica). length (r .book .plan .committed)) e ∙ settled-by panels own (badShop panels own) refl);
-  invariant = inv;
-}
-
 -- the three parts of a good shop's printout, one behind the other
 pub printed : (s : List ℕ) → shopBytes ≤ length s → badShop (getD s 0 0) (getD s 1 0) ≡ false
     → (r : Replica) → r ≡ fresh (getD s 0 0) (getD s 1 0)
     → (out out₁ out₂ out₃ : List ℕ) (at₁ at₃ : ℕ) (e : Ended)
     → Written out 0 (boardLine (getD s 0 0) (getD s 1 0)) out₁ at₁ → AllPut r s out₁ at₁ out₂ e
-    → Written out₂ (e .behind) (closing (model (e .board .state))) out₃ at₃ → Written out 0 (printout s) out₃ at₃
+    → Written out₂ (e .behind) (closing (model (e .state))) out₃ at₃ → Written out 0 (printout s) out₃ at₃
 printed s h good r er out out₁ out₂ out₃ at₁ at₃ e first put last =
     let found = foundFrom s shopBytes in
     let lines : Written out₁ at₁ (messageLines 1 (fresh (getD s 0 0) (getD s 1 0)) found) out₂ (e .behind) =
     subst (λ (q : Replica). Written out₁ at₁ (messageLines 1 q found) out₂ (e .behind)) er (put .lines) in
-    let end-is : model (e .board .state) ≡ afterAll (fresh (getD s 0 0) (getD s 1 0)) found =
-    put .board .state ∙ ap (λ (q : Replica). afterAll q found) er in
+    let end-is : model (e .state) ≡ afterAll (fresh (getD s 0 0) (getD s 1 0)) found =
+    put .panel .state ∙ ap (λ (q : Replica). afterAll q found) er in
     let closed = subst (λ (q : Replica). Written out₂ (e .behind) (closing q) out₃ at₃) end-is last in
     rw (printout-good s h good) (then first (then lines closed))

@@ -1,26 +1,20 @@
-// The printout of document 01: one definition of the input's bytes, `printout` of `specs/Sheet`, and `print`, which puts it into lent bytes.
+// The printout of document 01: one definition of the input's bytes, `printout` of `specs/Sheet`, and `print`, which puts it into lent
+// bytes.
 use replica::Called;
 use replica::State;
-use request::Number;
 use request::PanelNo;
-use request::numbers;
 use request::refusal;
 use wire::Answer;
 use wire::Message;
 use wire::Reading;
 ghost use mathlib.Core.Path.{_≡_};
-ghost use Prim.Native.Nat.{_+_, _*_, _≤_, _<_};
-ghost use lib.ListN.{length, drop};
-ghost use Rattle.lists.specs.Places.{leading};
-ghost use Rattle.text.specs.Placed.{Written};
+ghost use Prim.Native.Nat.{_+_, _*_, _≤_};
+ghost use lib.ListN.{length};
 ghost use Rattle.report.specs.Sizes.{mostMessageBytes, mostTotalsBytes, mostRegistersBytes};
-ghost use Rattle.registers.proofs.FrameLaws.{InRange};
-ghost use Rattle.creek.specs.Plan.{order};
-ghost use Rattle.creek.specs.Execution.{registers};
 ghost use Rattle.replica.specs.Model.{model, Inv, Kept};
 ghost use Rattle.wire.specs.Message.{said};
-ghost use Rattle.sheet.specs.Sheet.{callOf, lineOfMessage, closing, shopBytes, mostMessages, mostInput, mostPrinted, printout};
-ghost use Rattle.sheet.specs.Putting.{takenOf, otherThan, settledAfter, Stands, TakenIn, HeardAs, LinePut, AllPut, Printed};
+ghost use Rattle.sheet.specs.Sheet.{callOf, shopBytes, mostMessages, mostInput, mostPrinted};
+ghost use Rattle.sheet.specs.Putting.{takenOf, TakenIn, HeardAs, MessageLinePut, LinePut, AllPut, ClosingPut, PrintoutPut, Printed};
 
 // At most so many bytes of the input are read.
 pub const MOST_INPUT: usize = 65536;
@@ -31,22 +25,16 @@ pub const MOST_PRINTED: usize = 438473;
 // P and the own panel, one byte each.
 const SHOP_BYTES: usize = 2;
 
-// A panel with the length of its settled list.
-struct Board {
-    state: State,
-    settled: usize,
-}
-
-// The board after what was found, its refusal, and the undos done since the line before.
+// The panel after what was found, its refusal, and the undos done since the line before.
 struct Heard {
-    board: Board,
+    state: State,
     refusal: u8,
     undone: u32,
 }
 
-// The board after the last message, and the place behind the messages' lines.
+// The panel after the last message, and the place behind the messages' lines.
 struct Ended {
-    board: Board,
+    state: State,
     behind: usize,
 }
 
@@ -62,21 +50,6 @@ fn call(p: State, m: Message) -> Called
     replica::entering::deliver(p, x)
 }
 
-// The registers of a panel.
-fn registers_of(p: State) -> [u32; 64]
-    requires { ⌜ Inv p ⌝ }
-    ensures { λ r. ⌜ (r ≡ registers (model p .book .execution)) × InRange r ⌝ }
-{
-    let mut values = [0u32; 64];
-    let mut k = 0;
-    while k < 64 {
-        let shown = replica::showing::register(p, k as u8);
-        values[k] = shown.value;
-        k += 1;
-    }
-    values
-}
-
 // The bytes that are passed over: those of a message, or all that are left.
 fn bytes_passed(r: Reading, left: usize) -> usize
     ensures { λ n. ⌜ n ≡ takenOf r left ⌝ }
@@ -89,78 +62,39 @@ fn bytes_passed(r: Reading, left: usize) -> usize
     }
 }
 
-// How many requests of the standing order, from a place on that is counted from 0, stand in front of the one of number n.
-fn places_before(p: State, n: Number, from: usize) -> usize
-    requires { ⌜ Inv p ⌝ }
-    requires { ⌜ from ≤ length (order (model p .book .plan)) ⌝ }
-    ensures { λ k. ⌜ k ≡ from + leading (otherThan n) (drop from (order (model p .book .plan))) ⌝ }
-{
-    let all = replica::showing::requests(p);
-    let mut k = from;
-    while k < all {
-        let placed = replica::showing::at_place(p, k + 1);
-        let x = placed.request;
-        if numbers::same(n, x.number) {
-            break;
-        }
-        k += 1;
-    }
-    k
-}
-
-// The length of the settled list after a call that makes of m: a settled request stands last in it.
-fn settled_after(settled: usize, m: Message, c: Called) -> usize
-    requires { ⌜ Inv (c .state) ⌝ }
-    requires { ⌜ settled ≤ length (order (model (c .state) .book .plan)) ⌝ }
-    ensures { λ k. ⌜ k ≡ settledAfter settled m (c .answer .refusal) (model (c .state)) ⌝ }
-{
-    if !m.settles {
-        return settled;
-    }
-    let answer = c.answer;
-    if answer.refusal != refusal::ACCEPTED {
-        return settled;
-    }
-    let x = m.request;
-    places_before(c.state, x.number, settled) + 1
-}
-
 // A message is heard or settled, then due steps are called until idle.
-fn take_in(b: Board, m: Message) -> Heard
-    requires { ⌜ Inv (b .state) ⌝ }
-    requires { ⌜ b .settled ≡ length (model (b .state) .book .plan .committed) ⌝ }
-    ensures { λ h. ⌜ TakenIn b (said m) h ⌝ }
+fn take_in(p: State, m: Message) -> Heard
+    requires { ⌜ Inv p ⌝ }
+    ensures { λ h. ⌜ TakenIn p (said m) h ⌝ }
 {
-    let before = replica::showing::undos(b.state);
-    let c = call(b.state, m);
+    let before = replica::showing::undos(p);
+    let c = call(p, m);
     let answer = c.answer;
-    let settled = settled_after(b.settled, m, c);
     let ran = replica::due::run_due(c.state);
     let state = ran.state;
     let undone = replica::showing::undos(state) - before;
     Heard {
-        board: Board { state, settled },
+        state,
         refusal: answer.refusal,
         undone,
     }
 }
 
-// What was found is heard; what cannot be read leaves the board alone.
-fn hear(b: Board, r: Reading) -> Heard
-    requires { ⌜ Inv (b .state) ⌝ }
-    requires { ⌜ b .settled ≡ length (model (b .state) .book .plan .committed) ⌝ }
-    ensures { λ h. ⌜ HeardAs b r h ⌝ }
+// What was found is heard; what cannot be read leaves the panel alone.
+fn hear(p: State, r: Reading) -> Heard
+    requires { ⌜ Inv p ⌝ }
+    ensures { λ h. ⌜ HeardAs p r h ⌝ }
 {
     let answer = r.answer;
     match answer {
-        Answer::Message => take_in(b, r.message),
+        Answer::Message => take_in(p, r.message),
         Answer::End => Heard {
-            board: b,
+            state: p,
             refusal: refusal::ACCEPTED,
             undone: 0,
         },
         Answer::Refused(word) => Heard {
-            board: b,
+            state: p,
             refusal: word,
             undone: 0,
         },
@@ -178,7 +112,7 @@ fn put_message_line(
 ) -> usize
     requires { ⌜ at + mostMessageBytes ≤ length (now out) ⌝ }
     requires { ⌜ place ≤ mostInput ⌝ }
-    ensures { λ r. ⌜ Written (now (out .entry)) at (lineOfMessage place (said m) word undone) (now (out .exit)) r × (r ≤ at + mostMessageBytes) ⌝ }
+    ensures { λ r. ⌜ MessageLinePut place (said m) word undone (now (out .entry)) at (now (out .exit)) r ⌝ }
 {
     let kind = wire::layout::kind_number(wire::held::kind_of(m));
     let x = m.request;
@@ -212,41 +146,40 @@ fn put_line(out: &mut [u8], at: usize, place: u64, r: Reading, word: u8, undone:
 }
 
 // Hears all that is found behind the shop's bytes and puts its lines.
-fn put_messages(out: &mut [u8], from: usize, input: &[u8], b: Board) -> Ended
-    requires { ⌜ Stands b (model (b .state)) ⌝ }
+fn put_messages(out: &mut [u8], from: usize, input: &[u8], p: State) -> Ended
+    requires { ⌜ Inv p ⌝ }
     requires { ⌜ shopBytes ≤ length (now input) ⌝ }
     requires { ⌜ length (now input) ≤ mostInput ⌝ }
     requires { ⌜ from + mostMessages * mostMessageBytes ≤ length (now out) ⌝ }
-    ensures { λ e. ⌜ AllPut (model (b .state)) (now (input .entry)) (now (out .entry)) from (now (out .exit)) e ⌝ }
+    ensures { λ e. ⌜ AllPut (model p) (now (input .entry)) (now (out .entry)) from (now (out .exit)) e ⌝ }
 {
-    let mut board = b;
+    let mut state = p;
     let mut at = SHOP_BYTES;
     let mut behind = from;
     let mut place: u64 = 1;
     while at < input.len() {
         let r = wire::reader::read(input, at);
-        let h = hear(board, r);
-        board = h.board;
+        let h = hear(state, r);
+        state = h.state;
         behind = put_line(out, behind, place, r, h.refusal, h.undone);
         let bytes = bytes_passed(r, input.len() - at);
         at += bytes;
         place += 1;
     }
-    Ended { board, behind }
+    Ended { state, behind }
 }
 
 // Puts the list lengths, the step totals and the registers.
-fn put_closing(out: &mut [u8], at: usize, b: Board) -> usize
-    requires { ⌜ Stands b (model (b .state)) ⌝ }
+fn put_closing(out: &mut [u8], at: usize, p: State) -> usize
+    requires { ⌜ Inv p ⌝ }
     requires { ⌜ at + mostTotalsBytes + mostRegistersBytes ≤ length (now out) ⌝ }
-    ensures { λ r. ⌜ Written (now (out .entry)) at (closing (model (b .state))) (now (out .exit)) r × (r ≤ at + mostTotalsBytes + mostRegistersBytes) ⌝ }
+    ensures { λ r. ⌜ ClosingPut (model p) (now (out .entry)) at (now (out .exit)) r ⌝ }
 {
-    let p = b.state;
-    let settled = b.settled;
+    let settled = replica::showing::committed(p);
     let unsettled = replica::showing::requests(p) - settled;
     let undone = replica::showing::undos(p);
     let carried = replica::showing::executions(p);
-    let values = registers_of(p);
+    let values = replica::showing::registers(p);
     let registers_at = report::put_totals(
         out,
         at,
@@ -262,7 +195,7 @@ fn put_closing(out: &mut [u8], at: usize, b: Board) -> usize
 fn put_printout(out: &mut [u8], input: &[u8]) -> usize
     requires { ⌜ length (now input) ≤ mostInput ⌝ }
     requires { ⌜ mostPrinted ≤ length (now out) ⌝ }
-    ensures { λ r. ⌜ Written (now (out .entry)) 0 (printout (now (input .entry))) (now (out .exit)) r × (r ≤ mostPrinted) ⌝ }
+    ensures { λ r. ⌜ PrintoutPut (now (input .entry)) (now (out .entry)) (now (out .exit)) r ⌝ }
 {
     if input.len() < SHOP_BYTES {
         return report::put_refused(out, 0, refusal::CUT_SHORT as u64);
@@ -273,11 +206,9 @@ fn put_printout(out: &mut [u8], input: &[u8]) -> usize
     if opened.refusal != refusal::ACCEPTED {
         return report::put_refused(out, 0, refusal::BAD_SHOP as u64);
     }
-    let state = opened.state;
-    let board = Board { state, settled: 0 };
     let messages_at = report::put_board(out, 0, panels as u64, own as u64);
-    let e = put_messages(out, messages_at, input, board);
-    put_closing(out, e.behind, e.board)
+    let e = put_messages(out, messages_at, input, opened.state);
+    put_closing(out, e.behind, e.state)
 }
 
 // Puts the printout of the input, of which at most MOST_INPUT bytes are read, at the front of `out` and returns the place behind it. An

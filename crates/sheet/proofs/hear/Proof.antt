@@ -20,10 +20,10 @@ returns : tie.Need-returns
 returns c = heard-message _ _ _ (c .before .enum-told .given .1) (c .take-in .ensures)
 
 returns-2 : tie.Need-returns-2
-returns-2 c = heard-end _ _ (c .before .before .pre .0) (c .before .before .pre .1) (c .enum-told2 .given .1)
+returns-2 c = heard-end _ _ (c .before .before .pre) (c .enum-told2 .given .1)
 
 returns-3 : tie.Need-returns-3
-returns-3 c = heard-refused _ _ (c .before .before .before .pre .0) (c .before .before .before .pre .1) _ (c .before .answer .given .1)
+returns-3 c = heard-refused _ _ (c .before .before .before .pre) _ (c .before .answer .given .1)
 
 pub hear-spec : {M : Type 1} → statement M
 hear-spec =

@@ -1,11 +1,16 @@
 -- `print` meets its contract.
 use native.Mathlib.Omega.{arith}
 use mathlib.Core.Path.{_≡_, refl, sym}
+use lib.ListN.{length, take}
 use lib.Seq.{take-all, length-take-le}
 use Rattle.sheet.specs.Sheet.{mostInput}
 use borrow.Author.Needs.{needs}
 use Rattle.sheet.proofs.print.Statement.{statement}
 use Rattle.sheet.proofs.print.Tie as tie
+
+-- an input that is too long is cut to as much as is read
+cut : (c : tie.Else2) → let input = c .before .before .before .before .args .input .now in length (take mostInput input) ≡ mostInput
+cut c = length-take-le mostInput (c .before .before .before .before .args .input .now) (omega (arith, c .if2 .left))
 
 returns : tie.Need-returns
 returns c = record { short = λ h. (refl, refl); whole = λ h. absurd (omega (arith, h, c .if1 .taken)) }
@@ -23,12 +28,11 @@ returns-2 c = record {
 }
 
 slice-aggregate-put-printout : tie.Need-slice-aggregate-put-printout
-slice-aggregate-put-printout c = sym (length-take-le mostInput (c .before .before .before .before .before .before .args .input .now) (omega (arith, c .before .before .if2 .left)))
+slice-aggregate-put-printout c = sym (cut (c .before .before))
 
 put-printout-requires-2 : tie.Need-put-printout-requires-2
 put-printout-requires-2 c κs =
-    let long = length-take-le mostInput (c .before .before .before .before .before .before .args .input .now) (omega (arith, c .before .before .if2 .left)) in
-    (omega (arith, long), omega (arith, c .before .before .before .if1 .left))
+    (omega (arith, cut (c .before .before)), omega (arith, c .before .before .before .if1 .left))
 
 same-length-2 : tie.Need-same-length-2
 same-length-2 c = search needs

@@ -1,5 +1,5 @@
 -- `put_line` meets its contract.
-use Prim.Native.Nat.{ℕ, _<_, _^_}
+use Prim.Native.Nat.{_<_, _^_}
 use native.Mathlib.Omega.{arith}
 use Rattle.report.proofs.SizeLaws.{unread-short}
 use Rattle.sheet.proofs.PuttingLaws.{put-message-line, put-end-line, put-unread-line}
@@ -35,7 +35,7 @@ same-length c = search needs
 returns : tie.Need-returns
 returns c =
     let w = c .before .before .put-message-line .ensures in
-    put-message-line _ _ _ _ _ _ _ _ (c .before .before .before .before .enum-told .given .1) (w .0) (w .1)
+    put-message-line _ _ _ _ _ _ _ _ (c .before .before .before .before .enum-told .given .1) (w .written) (w .few)
 
 returns-2 : tie.Need-returns-2
 returns-2 c = put-end-line _ _ _ _ _ _ (c .enum-told2 .given .1)
@@ -45,8 +45,10 @@ same-length-2 c = search needs
 
 returns-3 : tie.Need-returns-3
 returns-3 c =
-    let small : c .before .before .before .before .before .answer .given .0 .0 < 2 ^ 8 = search needs in
-    put-unread-line _ _ _ _ _ _ _ _ _ (c .before .before .before .before .before .answer .given .1) small (c .before .before .before .before .before .before .before .before .pre .1) (c .before .before .put-unread .ensures)
+    let told = c .before .before .before .before .before in
+    let s = told .before .before .before in
+    let small : told .answer .given .0 .0 < 2 ^ 8 = search needs in
+    put-unread-line _ _ _ _ _ _ _ _ _ (told .answer .given .1) small (s .pre .1) (c .before .before .put-unread .ensures)
 
 pub put-line-spec : {M : Type 1} → statement M
 put-line-spec =

@@ -1,7 +1,7 @@
 -- `put_message_line` meets its contract.
-use Prim.Native.Nat.{ℕ, _<_, _≤_, _^_}
+use Prim.Native.Nat.{_<_, _≤_, _^_}
 use native.Mathlib.Omega.{arith}
-use mathlib.Core.Path.{_≡_, sym, ap, _∙_}
+use mathlib.Core.Path.{ap, _∙_}
 use lib.ListN.{length}
 use Rattle.report.specs.Lines.{messageLine}
 use Rattle.report.specs.Sizes.{mostMessageBytes}
@@ -18,7 +18,8 @@ small : (c : tie.Start) → (c .args .m .request .number .panel .0 < 2 ^ 8) × (
 small c = (search needs, search needs, search needs, search needs)
 
 short : (c : tie.After-kind-number) → let a = c .before .before .before .args in
-    length (messageLine (a .place) (c .kind-number .result) (a .m .request .number .panel .0) (a .m .request .number .event .0) (a .word) (a .undone))
+    let n = a .m .request .number in
+    length (messageLine (a .place) (c .kind-number .result) (n .panel .0) (n .event .0) (a .word) (a .undone))
     ≤ mostMessageBytes
 short c =
     let s = c .before .before .before in
@@ -41,7 +42,9 @@ cast-put-message-3 : tie.Need-cast-put-message-3
 cast-put-message-3 c = search needs
 
 put-message-requires : tie.Need-put-message-requires
-put-message-requires c κs = record { fits = omega (arith, c .before .before .before .before .before .before .pre .0, short (c .before .before .before)) }
+put-message-requires c κs =
+    let k = c .before .before .before in
+    record { fits = omega (arith, k .before .before .before .pre .0, short k) }
 
 same-length : tie.Need-same-length
 same-length c = search needs
@@ -49,10 +52,11 @@ same-length c = search needs
 returns : tie.Need-returns
 returns c =
     let k = c .before .before .before .before .before .before in
-    let a = c .before .before .before .before .before .before .before .before .before .args in
+    let a = k .before .before .before .args in
     let w = c .before .before .put-message .ensures in
-    let is = message-line (a .place) (a .m) (k .kind-number .result) (a .word) (a .undone) (k .kind-number .ensures ∙ ap kindNumber (k .before .kind-of .ensures)) in
-    (rw is w, omega (arith, w .place, short k))
+    let kind = k .kind-number .ensures ∙ ap kindNumber (k .before .kind-of .ensures) in
+    let is = message-line (a .place) (a .m) (k .kind-number .result) (a .word) (a .undone) kind in
+    record { written = rw is w; few = omega (arith, w .place, short k) }
 
 pub put-message-line-spec : {M : Type 1} → statement M
 put-message-line-spec =
