@@ -8,7 +8,11 @@ use mizzencord_compare::printout::printout;
 use crate::{naive, worked};
 
 fn stored(name: &str) -> Vec<u8> {
-    fs::read(Path::new(env!("CARGO_MANIFEST_DIR")).join("../examples").join(name)).unwrap()
+    stored_in("../examples", name)
+}
+
+fn stored_in(folder: &str, name: &str) -> Vec<u8> {
+    fs::read(Path::new(env!("CARGO_MANIFEST_DIR")).join(folder).join(name)).unwrap()
 }
 
 #[test]
@@ -20,4 +24,40 @@ fn stored_outputs_are_printed_again() {
         assert!(naive::printout(&input).as_bytes() == output, "{name}");
     }
     assert!(stored("worked.bin") == worked::INPUT);
+}
+
+#[test]
+fn stored_program_outputs_are_printed_again() {
+    for name in ["printout", "overlong", "fullshift"] {
+        let folder = format!("../crates/{name}");
+        let input = stored_in(&folder, "stdin");
+        let output = stored_in(&folder, "stdout");
+        assert!(printout(&input) == output, "{name}");
+        assert!(naive::printout(&input).as_bytes() == output, "{name}");
+    }
+}
+
+#[test]
+fn stored_cases_are_printed_again() {
+    let cases = stored_in("../crates/cases", "stdin");
+    let mut rest = cases.as_slice();
+    let mut output = Vec::new();
+    while !rest.is_empty() {
+        let name = part(&mut rest);
+        let input = part(&mut rest);
+        let text = printout(input);
+        assert!(naive::printout(input).as_bytes() == text, "{}", String::from_utf8_lossy(name));
+        output.extend_from_slice(name);
+        output.push(b'\n');
+        output.extend_from_slice(&text);
+    }
+    assert!(output == stored_in("../crates/cases", "stdout"));
+}
+
+/// The next part of the stored cases: its length in three bytes, and then it.
+fn part<'a>(rest: &mut &'a [u8]) -> &'a [u8] {
+    let length = u32::from_le_bytes([rest[0], rest[1], rest[2], 0]) as usize;
+    let (part, behind) = rest[3..].split_at(length);
+    *rest = behind;
+    part
 }

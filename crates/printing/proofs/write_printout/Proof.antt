@@ -1,0 +1,45 @@
+-- `write_printout` meets its contract: the page has room for the printout.
+use mathlib.Core.Path.{sym}
+use native.Mathlib.Omega.{arith}
+use lib.Seq.{length-take-le}
+use borrow.Author.Needs.{needs}
+use Rattle.printing.proofs.write_printout.Statement.{statement}
+use Rattle.printing.proofs.write_printout.Tie as tie
+
+page-requires : tie.Need-page-requires
+page-requires c κs = search needs
+
+slice-aggregate-print : tie.Need-slice-aggregate-print
+slice-aggregate-print c = search needs
+
+print-requires : tie.Need-print-requires
+print-requires c κs = search needs
+
+array-share-prefix-out : tie.Need-array-share-prefix-out
+array-share-prefix-out c =
+    let size = c .before .before .before .page .ensures in
+    let put = c .before .print .ensures .whole (omega (arith, size)) in
+    omega (arith, size, put .few, c .before .print .kept .0)
+
+slice-aggregate-write-all : tie.Need-slice-aggregate-write-all
+slice-aggregate-write-all c =
+    let p = c .before .before .print in
+    sym (length-take-le (p .result) (p .last .0) (array-share-prefix-out (c .before)))
+
+write-all-requires : tie.Need-write-all-requires
+write-all-requires c κs = search needs
+
+returns : tie.Need-returns
+returns c = search needs
+
+pub write-printout-spec : {M : Type 1} → statement M
+write-printout-spec =
+    tie.close
+    (tie.spec
+    page-requires
+    slice-aggregate-print
+    print-requires
+    array-share-prefix-out
+    slice-aggregate-write-all
+    write-all-requires
+    returns)
