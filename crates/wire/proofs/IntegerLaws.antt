@@ -82,3 +82,22 @@ byte-put out at i width v p =
     let more : width - i ≡ suc (width - (i + 1)) = omega arith in
     let next : at + (i + 1) ≡ suc (at + i) = omega arith in
     rw (more, next)
+
+-- ---- eight bytes as two halves
+
+abbrev pub half : ℕ
+half = 4
+
+pub word-of-halves : (s : List ℕ) (at : ℕ) → integerAt s (at + half) half * 256 ^ half + integerAt s at half ≡ integerAt s at widest
+unfolding integerAt
+word-of-halves s at =
+    let behind : at + half ≡ suc (suc (suc (suc at))) = omega arith in
+    rw behind (omega arith)
+
+pub halves-put : (out : List ℕ) (at v : ℕ)
+    → sets (sets out at (integerBytes half v)) (at + half) (integerBytes half (v / 256 ^ half)) ≡ sets out at (integerBytes widest v)
+unfolding integerBytes
+halves-put out at v =
+    let behind : at + half ≡ suc (suc (suc (suc at))) = omega arith in
+    let above : v / 256 ^ half ≡ v / 256 / 256 / 256 / 256 = omega arith in
+    rw (behind, above) refl

@@ -5,5 +5,6 @@ pub mod MessageLaws
 pub mod HeldLaws
 pub mod ReaderLaws
 pub mod WriterLaws
+pub mod FieldsLaws
 pub mod RoundTrip
 pub mod Examples

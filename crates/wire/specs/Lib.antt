@@ -1,6 +1,7 @@
--- What the contracts cite: integers as bytes, the layout, messages, and what the reader and the writer do with them.
+-- What the contracts cite: integers as bytes, the layout, messages, what the reader and the writer do with them, and messages as fields.
 pub mod Integers
 pub mod Layout
 pub mod Message
 pub mod Reader
 pub mod Writer
+pub mod Fields

@@ -143,7 +143,7 @@ fn number_at(s: &[u8], at: usize) -> Number
 }
 
 // The request of a message at a place, with its strength and its context.
-fn request_at(s: &[u8], at: usize, strong: bool, context: Context) -> Request
+pub(crate) fn request_at(s: &[u8], at: usize, strong: bool, context: Context) -> Request
     requires { ⌜ at + sizeOf Weak ≤ length (now s) ⌝ }
     ensures { λ r. ⌜ r ≡ requestFrom (fieldsAt Weak (now (s .entry)) at) strong context ⌝ }
 {
@@ -167,7 +167,7 @@ fn request_at(s: &[u8], at: usize, strong: bool, context: Context) -> Request
 }
 
 // The context of a strong request at a place.
-fn context_at(s: &[u8], at: usize) -> Context
+pub(crate) fn context_at(s: &[u8], at: usize) -> Context
     requires { ⌜ at + sizeOf Strong ≤ length (now s) ⌝ }
     ensures { λ r. ⌜ r ≡ setOf (decode contextWidths (now (s .entry)) (at + sizeOf Weak)) ⌝ }
 {
@@ -175,7 +175,7 @@ fn context_at(s: &[u8], at: usize) -> Context
     let mut from = at + layout::CONTEXT_AT;
     let mut p = 0;
     while p < layout::WORDS {
-        words[p] = integers::integer_at(s, from, layout::WORD_WIDTH);
+        words[p] = integers::word_at(s, from);
         from += layout::WORD_WIDTH;
         p += 1;
     }

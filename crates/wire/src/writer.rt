@@ -90,7 +90,7 @@ fn put_head(out: &mut [u8], kind: Kind)
 }
 
 // Writes panel and event.
-fn put_number(out: &mut [u8], n: Number)
+pub(crate) fn put_number(out: &mut [u8], n: Number)
     requires { ⌜ sizeOf Settlement ≤ length (now out) ⌝ }
     ensures { λ _. ⌜ now (out .exit) ≡ put (now (out .entry)) headSize (encode numberWidths (numberFields n)) ⌝ }
 {
@@ -101,7 +101,7 @@ fn put_number(out: &mut [u8], n: Number)
 }
 
 // Writes the fields from the clock to the amount.
-fn put_body(out: &mut [u8], r: Request)
+pub(crate) fn put_body(out: &mut [u8], r: Request)
     requires { ⌜ sizeOf Weak ≤ length (now out) ⌝ }
     ensures { λ _. ⌜ now (out .exit) ≡ put (now (out .entry)) (sizeOf Settlement) (encode bodyWidths (bodyFields r)) ⌝ }
 {
@@ -120,14 +120,14 @@ fn put_body(out: &mut [u8], r: Request)
 }
 
 // Writes the words of a context.
-fn put_context(out: &mut [u8], context: Context)
+pub(crate) fn put_context(out: &mut [u8], context: Context)
     requires { ⌜ sizeOf Strong ≤ length (now out) ⌝ }
     ensures { λ _. ⌜ now (out .exit) ≡ put (now (out .entry)) (sizeOf Weak) (encode contextWidths (context .words)) ⌝ }
 {
     let mut to = layout::CONTEXT_AT;
     let mut p = 0;
     while p < layout::WORDS {
-        integers::put_integer(out, to, layout::WORD_WIDTH, context.words[p]);
+        integers::put_word(out, to, context.words[p]);
         to += layout::WORD_WIDTH;
         p += 1;
     }

@@ -30,9 +30,9 @@ loop-holds : tie.Need-loop-holds Inv-loop μ-loop
 unfolding sizeOf layout size decode
 loop-holds c = (omega arith, omega arith, refl, refl)
 
-integer-at-requires : tie.Need-integer-at-requires Inv-loop μ-loop
+word-at-requires : tie.Need-word-at-requires Inv-loop μ-loop
 unfolding sizeOf layout size
-integer-at-requires c κs = omega arith
+word-at-requires c κs = omega arith
 
 mul-words : tie.Need-mul-words Inv-loop μ-loop
 mul-words c = omega arith
@@ -56,7 +56,7 @@ loop-again c =
       omega arith,
       omega arith,
       simp length-set (l .inv .2),
-      word-read (l .p) (omega arith) (l .words) _ (l .from) _ (c .integer-at .ensures .0) ∙ l .inv .3,
+      word-read (l .p) (omega arith) (l .words) _ (l .from) _ (c .word-at .ensures) ∙ l .inv .3,
     )
 
 returns : tie.Need-returns Inv-loop μ-loop
@@ -73,7 +73,7 @@ context-at-spec =
     μ-loop
     add-from
     loop-holds
-    integer-at-requires
+    word-at-requires
     mul-words
     array-write-words
     add-from-2

@@ -27,15 +27,15 @@ loop-holds : tie.Need-loop-holds Inv-loop μ-loop
 unfolding sizeOf layout size
 loop-holds c = (omega arith, omega arith, refl, refl)
 
-mul-put-integer : tie.Need-mul-put-integer Inv-loop μ-loop
-mul-put-integer c = omega arith
+mul-put-word : tie.Need-mul-put-word Inv-loop μ-loop
+mul-put-word c = omega arith
 
-element-copy-out-put-integer : tie.Need-element-copy-out-put-integer Inv-loop μ-loop
-element-copy-out-put-integer c = omega arith
+element-copy-out-put-word : tie.Need-element-copy-out-put-word Inv-loop μ-loop
+element-copy-out-put-word c = omega arith
 
-put-integer-requires : tie.Need-put-integer-requires Inv-loop μ-loop
+put-word-requires : tie.Need-put-word-requires Inv-loop μ-loop
 unfolding sizeOf layout size
-put-integer-requires c κs = omega arith
+put-word-requires c κs = omega arith
 
 add-to : tie.Need-add-to Inv-loop μ-loop
 unfolding sizeOf layout size
@@ -49,7 +49,7 @@ loop-less c = omega arith
 
 loop-again : tie.Need-loop-again Inv-loop μ-loop
 loop-again c =
-    let put = c .before .before .put-integer in
+    let put = c .before .before .put-word in
     let l = c .before .before .before .before .before .before .loop in
     let a = c .before .before .before .before .before .before .before .before .args in
     let words : length (a .t2 .words) ≡ mostPanels = search needs in (
@@ -77,9 +77,9 @@ put-context-spec =
     Inv-loop
     μ-loop
     loop-holds
-    mul-put-integer
-    element-copy-out-put-integer
-    put-integer-requires
+    mul-put-word
+    element-copy-out-put-word
+    put-word-requires
     add-to
     add-p
     loop-less
