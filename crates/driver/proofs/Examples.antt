@@ -18,7 +18,8 @@ use Rattle.wire.specs.Integers.{integerAt, integerBytes}
 use Rattle.wire.specs.Layout.{layout, size, decode, encode, sizeOf, fieldsAt}
 use Rattle.wire.specs.Message.{kindOf, contents, fieldsOf, bytesOf, messageFrom, weakWithContext, bare, held, noMessage}
 use Rattle.wire.specs.Reader.{answered, lengthAt, kindAt, spareAt, refusalAs, readAs, readAt}
-use Rattle.driver.specs.Encoding.{messageAt, invocationOf, callOf, callAt, callsFrom, callCount, callsOf}
+use Rattle.driver.specs.Encoding.{messageAt, invocationOf, callOf, callAt, entryAt, entriesFrom, callCount, entriesOf}
+use Rattle.driver.specs.Encoding.{after, answerTo}
 use Rattle.driver.specs.Encoding.{messageBytes, headBytes, answerBytes, answersBytes, freshOf}
 
 -- clock 9, add 7 to register 5
@@ -36,12 +37,12 @@ spread = 18 ∷ 0 ∷ 1 ∷ 0 ∷ 0 ∷ 1 ∷ 9 ∷ 0 ∷ 0 ∷ 0 ∷ 3 ∷ 5 �
 abbrev pub zeros : List ℕ
 zeros = 18 ∷ 0 ∷ 1 ∷ 0 ∷ replicate 78 0
 
-pub made-and-carried-out : answersBytes (freshOf asked) (callsOf asked)
+pub made-and-carried-out : answersBytes (freshOf asked) (entriesOf asked)
     ≡ (0 ∷ 0 ∷ 0 ∷ 0 ∷ 0 ∷ 0 ∷ 0 ∷ 0 ∷ spread ++ replicate 64 0) ++ 0 ∷ 1 ∷ 0 ∷ 1 ∷ 7 ∷ 0 ∷ 0 ∷ 0 ∷ zeros
 unfolding sameNumber badNumber badOperation before allZero isEmpty bit member join leave offBoard added claimed movable
     moved exec response replayOn replay refusal accepted badShop fresh accept step registers adjusted executedNext
     executeRefusal lastEvent lastClock entered made invokeRefusal executionMark executionReply acceptedAnswer answerOf
     acceptedAwaiting integerAt integerBytes layout size decode encode sizeOf fieldsAt kindOf contents fieldsOf bytesOf
     messageFrom weakWithContext bare held noMessage answered lengthAt kindAt spareAt refusalAs readAs readAt messageAt
-    invocationOf callOf callAt callsFrom callCount callsOf messageBytes headBytes answerBytes answersBytes
+    invocationOf callOf callAt entryAt entriesFrom callCount entriesOf after answerTo messageBytes headBytes answerBytes answersBytes
 made-and-carried-out = refl

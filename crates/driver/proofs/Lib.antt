@@ -1,6 +1,8 @@
 -- The laws behind a run.
 pub mod SizeLaws
 pub mod MessageLaws
+pub mod DueLaws
+pub mod Expanded
 pub mod Running
 pub mod CallLaws
 pub mod RunLaws

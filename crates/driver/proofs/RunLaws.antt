@@ -8,12 +8,11 @@ use lib.ListN.{length}
 use lib.Seq.{sets}
 use borrow.Author.Tests.{lt-ltb, le-ltb}
 use Rattle.creek.specs.Calls.{Replica}
-use Rattle.creek.specs.History.{run}
 use Rattle.replica.specs.declared.State.{State}
 use Rattle.replica.specs.declared.Opened.{Opened}
 use Rattle.replica.specs.Model.{Fresh}
-use Rattle.driver.specs.Encoding.{panelsOf, ownOf, callsAt, callCount, callsOf, answerSize, answersBytes}
-use Rattle.driver.specs.Encoding.{tight, callsRun, RanAll, Ran}
+use Rattle.driver.specs.Encoding.{panelsOf, ownOf, callsAt, callCount, entriesOf, answerSize, answersBytes}
+use Rattle.driver.specs.Encoding.{runEntries, tight, entriesRun, RanAll, Ran}
 use Rattle.driver.proofs.SizeLaws.{length-calls}
 
 module _ (s out : List ℕ) (panels own : ℕ) (o : Opened) (is-panels : panels ≡ panelsOf s) (is-own : own ≡ ownOf s)
@@ -25,7 +24,7 @@ module _ (s out : List ℕ) (panels own : ℕ) (o : Opened) (is-panels : panels 
     -- without room
     pub ran-nothing : length out / answerSize < count
         → Ran s out out (record { room = false; refusal = o .refusal; ran = 0; state = o .state })
-    unfolding callsRun run answersBytes
+    unfolding entriesRun runEntries answersBytes
     ran-nothing h =
         let e : tight s out ≡ true = lt-ltb (length out / answerSize) (callCount s) (omega (arith, counted)) in
         record {
@@ -40,14 +39,14 @@ module _ (s out : List ℕ) (panels own : ℕ) (o : Opened) (is-panels : panels 
     -- with room
     pub ran-all : count ≤ length out / answerSize → (out′ : List ℕ) (q : State) → RanAll (o .state) s out out′ q
         → Ran s out out′ (record { room = true; refusal = o .refusal; ran = count; state = q })
-    unfolding callsRun callsOf
+    unfolding entriesRun entriesOf
     ran-all h out′ q all =
         let e : tight s out ≡ false = le-ltb (length out / answerSize) (callCount s) (omega (arith, counted)) in
         record {
           room = rw e refl;
           refusal = opened-of .refusal;
           ran = rw e (counted ∙ sym (length-calls s callsAt (callCount s)));
-          state = rw e (all .state ∙ ap (λ (r : Replica). run r (callsOf s)) (opened-of .state));
-          answers = rw e (all .answers ∙ ap (λ (r : Replica). sets out 0 (answersBytes r (callsOf s))) (opened-of .state));
+          state = rw e (all .state ∙ ap (λ (r : Replica). runEntries r (entriesOf s)) (opened-of .state));
+          answers = rw e (all .answers ∙ ap (λ (r : Replica). sets out 0 (answersBytes r (entriesOf s))) (opened-of .state));
           invariant = all .invariant;
         }

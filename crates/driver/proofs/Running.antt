@@ -8,18 +8,17 @@ use lib.ListN.{length}
 use Rattle.text.specs.Placed.{Room, Written}
 use Rattle.text.proofs.PlacedLaws.{Left, left-start, left-room, left-step, left-end}
 use Rattle.creek.specs.declared.Answer.{Answer}
-use Rattle.creek.specs.Book.{Call}
-use Rattle.creek.specs.Calls.{Replica, step, answer}
-use Rattle.creek.specs.History.{run}
+use Rattle.creek.specs.Calls.{Replica}
 use Rattle.replica.specs.declared.State.{State}
 use Rattle.replica.specs.declared.Called.{Called}
-use Rattle.replica.specs.Model.{Inv, model, Kept}
-use Rattle.driver.specs.Encoding.{callsAt, callSize, callAt, callsFrom, callCount, callsOf, answerBytes, answersBytes, RanAll}
+use Rattle.replica.specs.Model.{Inv, model}
+use Rattle.driver.specs.Encoding.{callsAt, callSize, Entry, entryAt, entriesFrom, callCount, entriesOf}
+use Rattle.driver.specs.Encoding.{after, answerTo, runEntries, Done, answerBytes, answersBytes, RanAll}
 
 -- the first of the calls that are left, and those behind it
 one-call : (s : List ℕ) (at count i : ℕ) → i < count
-    → callsFrom s at (count - i) ≡ callAt s at ∷ callsFrom s (at + callSize) (count - (i + 1))
-unfolding callsFrom
+    → entriesFrom s at (count - i) ≡ entryAt s at ∷ entriesFrom s (at + callSize) (count - (i + 1))
+unfolding entriesFrom
 one-call s at count i h =
     let e : count - i ≡ suc (count - (i + 1)) = omega arith in
     rw e
@@ -29,18 +28,18 @@ pub record Running (p : State) (s : List ℕ) (count : ℕ) (out out₁ : List �
   pub few : i ≤ count
   pub place : at ≡ callsAt + callSize * i
   pub invariant : Inv q
-  pub state : run (model q) (callsFrom s at (count - i)) ≡ run (model p) (callsOf s)
-  pub answers : Left out 0 (answersBytes (model p) (callsOf s)) out₁ behind (answersBytes (model q) (callsFrom s at (count - i)))
+  pub state : runEntries (model q) (entriesFrom s at (count - i)) ≡ runEntries (model p) (entriesOf s)
+  pub answers : Left out 0 (answersBytes (model p) (entriesOf s)) out₁ behind (answersBytes (model q) (entriesFrom s at (count - i)))
 
 pub run-start : (p : State) (s : List ℕ) (count : ℕ) (out : List ℕ) → Inv p → count ≡ callCount s
     → Running p s count out out p callsAt 0 0
-unfolding callsOf
+unfolding entriesOf
 run-start p s count out inv e = record {
   few = omega arith;
   place = omega arith;
   invariant = inv;
   state = rw (sub-zero, e);
-  answers = rw (sub-zero, e) (left-start out 0 (answersBytes (model p) (callsOf s)));
+  answers = rw (sub-zero, e) (left-start out 0 (answersBytes (model p) (entriesOf s)));
 }
 
 -- a call lies within the bytes
@@ -50,33 +49,33 @@ unfolding callCount
 call-within s count at i e f h = omega arith
 
 -- the calls behind call i
-abbrev behindCall : List ℕ → ℕ → ℕ → ℕ → List Call
-behindCall s at count i = callsFrom s (at + callSize) (count - (i + 1))
+abbrev behindCall : List ℕ → ℕ → ℕ → ℕ → List Entry
+behindCall s at count i = entriesFrom s (at + callSize) (count - (i + 1))
 
 -- where call i answers a and leads to r, a is the next of the answers that are left
 next-left : (p : State) (s : List ℕ) (count : ℕ) (out out₁ : List ℕ) (q : State) (at behind i : ℕ) → i < count
-    → Running p s count out out₁ q at behind i → (a : Answer) (r : Replica) → a ≡ answer (model q) (callAt s at)
-    → r ≡ step (model q) (callAt s at)
-    → Left out 0 (answersBytes (model p) (callsOf s)) out₁ behind (answerBytes a ++ answersBytes r (behindCall s at count i))
+    → Running p s count out out₁ q at behind i → (a : Answer) (r : Replica) → a ≡ answerTo (model q) (entryAt s at)
+    → r ≡ after (model q) (entryAt s at)
+    → Left out 0 (answersBytes (model p) (entriesOf s)) out₁ behind (answerBytes a ++ answersBytes r (behindCall s at count i))
 unfolding answersBytes
 next-left p s count out out₁ q at behind i h now a r answers leads =
     rw (answers, leads) (rw (one-call s at count i h) at (now .answers))
 
 next-run : (p : State) (s : List ℕ) (count : ℕ) (out out₁ : List ℕ) (q : State) (at behind i : ℕ) → i < count
-    → Running p s count out out₁ q at behind i → (r : Replica) → r ≡ step (model q) (callAt s at)
-    → run r (behindCall s at count i) ≡ run (model p) (callsOf s)
-unfolding run
+    → Running p s count out out₁ q at behind i → (r : Replica) → r ≡ after (model q) (entryAt s at)
+    → runEntries r (behindCall s at count i) ≡ runEntries (model p) (entriesOf s)
+unfolding runEntries
 next-run p s count out out₁ q at behind i h now r leads = rw leads (rw (one-call s at count i h) at (now .state))
 
 -- one call, carried out
 module _ (p : State) (s : List ℕ) (count : ℕ) (out out₁ : List ℕ) (q : State) (at behind i : ℕ) (h : i < count)
-    (now : Running p s count out out₁ q at behind i) (d : Called) (kept : Kept q (callAt s at) d)
+    (now : Running p s count out out₁ q at behind i) (d : Called) (kept : Done q (entryAt s at) d)
   where
-    next : Left out 0 (answersBytes (model p) (callsOf s)) out₁ behind
+    next : Left out 0 (answersBytes (model p) (entriesOf s)) out₁ behind
         (answerBytes (d .answer) ++ answersBytes (model (d .state)) (behindCall s at count i))
     next = next-left p s count out out₁ q at behind i h now (d .answer) (model (d .state)) (kept .answer) (kept .state)
 
-    pub run-room : Room out 0 (answersBytes (model p) (callsOf s)) → Room out₁ behind (answerBytes (d .answer))
+    pub run-room : Room out 0 (answersBytes (model p) (entriesOf s)) → Room out₁ behind (answerBytes (d .answer))
     run-room r = left-room (answerBytes (d .answer)) (answersBytes (model (d .state)) (behindCall s at count i)) r next
 
     pub run-step : (out₂ : List ℕ) (behind₂ : ℕ) → Written out₁ behind (answerBytes (d .answer)) out₂ behind₂
@@ -91,7 +90,7 @@ module _ (p : State) (s : List ℕ) (count : ℕ) (out out₁ : List ℕ) (q : S
 
 pub run-end : (p : State) (s : List ℕ) (count : ℕ) (out out₁ : List ℕ) (q : State) (at behind i : ℕ) → count ≤ i
     → Running p s count out out₁ q at behind i → RanAll p s out out₁ q
-unfolding run callsFrom answersBytes
+unfolding runEntries entriesFrom answersBytes
 run-end p s count out out₁ q at behind i h now =
     let none : count - i ≡ 0 = omega arith in
     record {

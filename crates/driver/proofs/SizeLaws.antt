@@ -9,12 +9,11 @@ use lib.Seq.{sets, length-sets}
 use Rattle.text.specs.Placed.{Room}
 use Rattle.request.specs.declared.Request.{Request}
 use Rattle.creek.specs.declared.Answer.{Answer}
-use Rattle.creek.specs.Book.{Call}
-use Rattle.creek.specs.Calls.{Replica, step, answer}
+use Rattle.creek.specs.Calls.{Replica}
 use Rattle.wire.specs.Integers.{integerBytes}
 use Rattle.wire.specs.Message.{request, bytesOf, weakWithContext}
 use Rattle.driver.specs.Encoding.{messageSize, noMessageBytes, messageBytes, headBytes, answerBytes, answerSize, answersBytes}
-use Rattle.driver.specs.Encoding.{callsAt, callSize, callsFrom, callCount, callsOf}
+use Rattle.driver.specs.Encoding.{callsAt, callSize, Entry, entriesFrom, callCount, entriesOf, after, answerTo}
 
 length-message : (x : Request) → length (messageBytes x) ≡ messageSize
 unfolding messageBytes
@@ -29,23 +28,23 @@ pub length-answer : (a : Answer) → length (answerBytes a) ≡ answerSize
 unfolding answerBytes headBytes integerBytes
 length-answer a = length-append (headBytes a) (messageBytes (a .request)) ∙ rw (length-message (a .request)) refl
 
-pub length-calls : (s : List ℕ) (at k : ℕ) → length (callsFrom s at k) ≡ k
-unfolding callsFrom
+pub length-calls : (s : List ℕ) (at k : ℕ) → length (entriesFrom s at k) ≡ k
+unfolding entriesFrom
 length-calls s at zero = refl
 length-calls s at (suc k) = rw (length-calls s (at + callSize) k) refl
 
-pub length-answers : (r : Replica) (cs : List Call) → length (answersBytes r cs) ≡ answerSize * length cs
+pub length-answers : (r : Replica) (cs : List Entry) → length (answersBytes r cs) ≡ answerSize * length cs
 unfolding answersBytes
 length-answers r [] = refl
 length-answers r (c ∷ cs) =
     omega (
       arith,
-      length-append (answerBytes (answer r c)) (answersBytes (step r c) cs),
-      length-answer (answer r c),
-      length-answers (step r c) cs,
+      length-append (answerBytes (answerTo r c)) (answersBytes (after r c) cs),
+      length-answer (answerTo r c),
+      length-answers (after r c) cs,
     )
 
 -- out has room for the answers
-pub answers-room : (r : Replica) (s out : List ℕ) → callCount s ≤ length out / answerSize → Room out 0 (answersBytes r (callsOf s))
-unfolding callsOf
-answers-room r s out h = record { fits = omega (arith, length-answers r (callsOf s), length-calls s callsAt (callCount s)) }
+pub answers-room : (r : Replica) (s out : List ℕ) → callCount s ≤ length out / answerSize → Room out 0 (answersBytes r (entriesOf s))
+unfolding entriesOf
+answers-room r s out h = record { fits = omega (arith, length-answers r (entriesOf s), length-calls s callsAt (callCount s)) }

@@ -7,12 +7,16 @@ use lib.ListN.{length, getD, replicate}
 use lib.Seq.{sets}
 use lib.Dec.{eqb, ltb}
 use Rattle.request.specs.declared.Request.{Request}
+use Rattle.request.specs.Numbers.{noNumber}
 use Rattle.creek.specs.declared.Invocation.{Invocation}
 use Rattle.creek.specs.declared.Answer.{Answer}
 use Rattle.creek.specs.Book.{Call, invoke, deliver, commit, undo, execute}
+use Rattle.creek.specs.Execution.{owed}
+use Rattle.creek.specs.Replies.{noMark, reply}
 use Rattle.creek.specs.Calls.{Replica, fresh, freshRefusal, step, answer}
-use Rattle.creek.specs.History.{run}
+use Rattle.creek.specs.History.{due, settleDown}
 use Rattle.replica.specs.declared.State.{State}
+use Rattle.replica.specs.declared.Called.{Called}
 use Rattle.replica.specs.Model.{Inv, model}
 use Rattle.wire.specs.declared.Message.{Message}
 use Rattle.wire.specs.Integers.{integerBytes}
@@ -57,6 +61,9 @@ undoTag = 2
 abbrev pub executeTag : ℕ
 executeTag = 3
 
+abbrev pub allDueTag : ℕ
+allDueTag = 4
+
 -- the bus message at a place as the reader holds it: zeros where none can be read, which is heard as a request of a bad number
 unfoldable pub messageAt : List ℕ → ℕ → Message
 messageAt s at = answered (readAt s at) .message
@@ -77,18 +84,70 @@ callAt s at =
     (cond {A = Call} (eqb (getD s at 0) invokeTag) (invoke (invocationOf (messageAt s (at + 1) .request)))
     (callOf (messageAt s (at + 1)))))
 
--- so many calls from a place on
-unfoldable pub callsFrom : List ℕ → ℕ → ℕ → List Call
-callsFrom s at zero = []
-callsFrom s at (suc k) = callAt s at ∷ callsFrom s (at + callSize) k
+-- what a place asks for: one call, or all due steps
+pub data Entry : Type 0 where
+  one : Call → Entry
+  allDue : Entry
 
--- how many whole calls there are
+unfoldable pub entryAt : List ℕ → ℕ → Entry
+entryAt s at = cond {A = Entry} (eqb (getD s at 0) allDueTag) allDue (one (callAt s at))
+
+-- so many entries from a place on
+unfoldable pub entriesFrom : List ℕ → ℕ → ℕ → List Entry
+entriesFrom s at zero = []
+entriesFrom s at (suc k) = entryAt s at ∷ entriesFrom s (at + callSize) k
+
+-- how many whole entries there are
 unfoldable pub callCount : List ℕ → ℕ
 callCount s = (length s - callsAt) / callSize
 
--- the calls
-unfoldable pub callsOf : List ℕ → List Call
-callsOf s = callsFrom s callsAt (callCount s)
+-- the entries
+unfoldable pub entriesOf : List ℕ → List Entry
+entriesOf s = entriesFrom s callsAt (callCount s)
+
+-- ---- what an entry does
+
+-- the steps that a replica owes
+abbrev pub owedBy : Replica → ℕ
+owedBy r = owed (r .book .execution)
+
+-- the replica after an entry
+unfoldable pub after : Replica → Entry → Replica
+after r (one c) = step r c
+after r allDue = settleDown (owedBy r) r
+
+-- the answer to it; all due steps are answered by their count
+unfoldable pub answerTo : Replica → Entry → Answer
+answerTo r (one c) = answer r c
+answerTo r allDue = reply noNumber (owedBy r) noMark
+
+-- the replica after those entries, each on what the last one left
+unfoldable pub runEntries : Replica → List Entry → Replica
+runEntries r [] = r
+runEntries r (x ∷ xs) = runEntries (after r x) xs
+
+-- the entry was carried out on p
+pub record Done (p : State) (x : Entry) (r : Called) : Type 0 where
+  pub answer : r .answer ≡ answerTo (model p) x
+  pub state : model (r .state) ≡ after (model p) x
+  pub invariant : Inv (r .state)
+
+-- ---- the calls that entries stand for
+
+-- so many due steps
+unfoldable pub dueCalls : ℕ → Replica → List Call
+dueCalls zero r = []
+dueCalls (suc k) r = due (r .book .execution) ∷ dueCalls k (step r (due (r .book .execution)))
+
+-- the calls of an entry
+unfoldable pub callsIn : Replica → Entry → List Call
+callsIn r (one c) = c ∷ []
+callsIn r allDue = dueCalls (owedBy r) r
+
+-- the calls of all entries; `proofs/Expanded` says that the replica after the entries is the one after these calls
+unfoldable pub callsOf : Replica → List Entry → List Call
+callsOf r [] = []
+callsOf r (x ∷ xs) = callsIn r x ++ callsOf (after r x) xs
 
 -- ---- the answers
 
@@ -119,10 +178,10 @@ answerBytes a = headBytes a ++ messageBytes (a .request)
 abbrev pub answerSize : ℕ
 answerSize = 4 + responseWidth + messageSize
 
--- the bytes of the answers to those calls, each call on what the last one left
-unfoldable pub answersBytes : Replica → List Call → List ℕ
+-- the bytes of the answers to those entries, each on what the last one left
+unfoldable pub answersBytes : Replica → List Entry → List ℕ
 answersBytes r [] = []
-answersBytes r (c ∷ cs) = answerBytes (answer r c) ++ answersBytes (step r c) cs
+answersBytes r (x ∷ xs) = answerBytes (answerTo r x) ++ answersBytes (after r x) xs
 
 -- ---- a run
 
@@ -134,28 +193,28 @@ freshOf s = fresh (panelsOf s) (ownOf s)
 abbrev pub tight : List ℕ → List ℕ → Bool
 tight s out = ltb (length out / answerSize) (callCount s)
 
--- the calls that are run: all, or none where there is no room for the answers
-unfoldable pub callsRun : List ℕ → List ℕ → List Call
-callsRun s out = cond {A = List Call} (tight s out) [] (callsOf s)
+-- the entries that are run: all, or none where there is no room for the answers
+unfoldable pub entriesRun : List ℕ → List ℕ → List Entry
+entriesRun s out = cond {A = List Entry} (tight s out) [] (entriesOf s)
 
--- the calls of s were run on p: q is the state after them, and out′ is out with their answers at its front
+-- the entries of s were run on p: q is the state after them, and out′ is out with their answers at its front
 pub record RanAll (p : State) (s out out′ : List ℕ) (q : State) : Type 0 where
-  pub state : model q ≡ run (model p) (callsOf s)
-  pub answers : out′ ≡ sets out 0 (answersBytes (model p) (callsOf s))
+  pub state : model q ≡ runEntries (model p) (entriesOf s)
+  pub answers : out′ ≡ sets out 0 (answersBytes (model p) (entriesOf s))
   pub invariant : Inv q
 
 -- what a run of the bytes s does where the lent bytes were out and are out′
 pub record Ran (s out out′ : List ℕ) (r : RanOf) : Type 0 where
   pub room : r .room ≡ not (tight s out)
   pub refusal : r .refusal ≡ freshRefusal (panelsOf s) (ownOf s)
-  pub ran : r .ran ≡ length (callsRun s out)
-  -- the state is the run of the calls
-  pub state : model (r .state) ≡ run (freshOf s) (callsRun s out)
+  pub ran : r .ran ≡ length (entriesRun s out)
+  -- the state is the run of the entries
+  pub state : model (r .state) ≡ runEntries (freshOf s) (entriesRun s out)
   -- the answers stand at the front, and every other byte is as it was
-  pub answers : out′ ≡ sets out 0 (answersBytes (freshOf s) (callsRun s out))
+  pub answers : out′ ≡ sets out 0 (answersBytes (freshOf s) (entriesRun s out))
   pub invariant : Inv (r .state)
 
--- what of it a caller in another language sees: how many calls were run, and the answers
+-- what of it a caller in another language sees: how many entries were run, and the answers
 pub record Answered (s out out′ : List ℕ) (n : ℕ) : Type 0 where
-  pub ran : n ≡ length (callsRun s out)
-  pub answers : out′ ≡ sets out 0 (answersBytes (freshOf s) (callsRun s out))
+  pub ran : n ≡ length (entriesRun s out)
+  pub answers : out′ ≡ sets out 0 (answersBytes (freshOf s) (entriesRun s out))

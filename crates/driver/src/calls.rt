@@ -1,17 +1,25 @@
 // The calls in a run of bytes: how many there are, and one read and carried out.
+use creek::Answer;
 use creek::Invocation;
+use creek::mark;
 use replica::Called;
 use replica::State;
+use replica::due;
 use replica::entering;
 use replica::settling;
 use replica::steps;
+use request::EventNo;
+use request::Number;
+use request::PanelNo;
 use request::Request;
+use request::refusal;
+use wire::held;
 use wire::reader;
 ghost use mathlib.Core.Path.{_≡_};
 ghost use Prim.Native.Nat.{_<_};
 ghost use lib.ListN.{length, getD};
-ghost use Rattle.replica.specs.Model.{Inv, Kept};
-ghost use Rattle.driver.specs.Encoding.{callCount, callAt, invocationOf};
+ghost use Rattle.replica.specs.Model.{Inv};
+ghost use Rattle.driver.specs.Encoding.{callCount, invocationOf, entryAt, allDue, Done};
 
 pub const PANELS_AT: usize = 0;
 
@@ -31,6 +39,8 @@ pub const INVOKE: u8 = 1;
 pub const UNDO: u8 = 2;
 
 pub const EXECUTE: u8 = 3;
+
+pub const ALL_DUE: u8 = 4;
 
 // The byte at a place, 0 where there is none.
 pub(crate) fn byte_at(s: &[u8], at: usize) -> u8
@@ -52,13 +62,16 @@ pub(crate) fn call_count(s: &[u8]) -> usize
     (s.len() - CALLS_AT) / CALL_SIZE
 }
 
-// The call at a place, carried out on p.
+// What a place asks for, carried out on p.
 pub(crate) fn call(p: State, s: &[u8], at: usize) -> Called
     requires { ⌜ Inv p ⌝ }
     requires { ⌜ at < length (now s) ⌝ }
-    ensures { λ r. ⌜ Kept p (callAt (now (s .entry)) at) r ⌝ }
+    ensures { λ r. ⌜ Done p (entryAt (now (s .entry)) at) r ⌝ }
 {
     let tag = s[at];
+    if tag == ALL_DUE {
+        return all_due(p);
+    }
     if tag == UNDO {
         return steps::undo(p);
     }
@@ -76,6 +89,31 @@ pub(crate) fn call(p: State, s: &[u8], at: usize) -> Called
         return settling::commit(p, request.number);
     }
     entering::deliver(p, request)
+}
+
+// All due steps, carried out on p; the answer has their count.
+fn all_due(p: State) -> Called
+    requires { ⌜ Inv p ⌝ }
+    ensures { λ r. ⌜ Done p allDue r ⌝ }
+{
+    let ran = due::run_due(p);
+    let steps = ran.undos + ran.executions;
+    let state = ran.state;
+    let nothing = held::nothing();
+    let request = nothing.request;
+    Called {
+        answer: Answer {
+            refusal: refusal::ACCEPTED,
+            request,
+            number: Number {
+                panel: PanelNo(0),
+                event: EventNo(0),
+            },
+            response: steps,
+            mark: mark::NOBODY,
+        },
+        state,
+    }
 }
 
 // The invocation with the operation, strength and clock reading of x.

@@ -9,7 +9,7 @@ use request::PanelNo;
 ghost use mathlib.Core.Path.{_≡_};
 ghost use Rattle.text.specs.Placed.{Room};
 ghost use Rattle.replica.specs.Model.{Inv, model};
-ghost use Rattle.driver.specs.Encoding.{callCount, callsOf, answersBytes, Ran as RanBytes, RanAll, Answered};
+ghost use Rattle.driver.specs.Encoding.{callCount, entriesOf, answersBytes, Ran as RanBytes, RanAll};
 
 // What a run returns: whether the lent bytes have room for the answers, the refusal of fresh, how many calls were run, and the state
 // after them.
@@ -47,20 +47,11 @@ pub fn run(s: &[u8], out: &mut [u8]) -> Ran
     }
 }
 
-// The same for callers in other languages: how many calls were run, with their answers at the front of `out`.
-#[no_mangle]
-pub extern "C" fn driver_run(s: &[u8], out: &mut [u8]) -> usize
-    ensures { λ n. ⌜ Answered (now (s .entry)) (now (out .entry)) (now (out .exit)) n ⌝ }
-{
-    let r = run(s, out);
-    r.ran
-}
-
 // The state after the calls of `s`, which are so many, on p; their answers are put at the front of `out`.
 fn run_all(p: State, s: &[u8], count: usize, out: &mut [u8]) -> State
     requires { ⌜ Inv p ⌝ }
     requires { ⌜ count ≡ callCount (now s) ⌝ }
-    requires { ⌜ Room (now out) 0 (answersBytes (model p) (callsOf (now s))) ⌝ }
+    requires { ⌜ Room (now out) 0 (answersBytes (model p) (entriesOf (now s))) ⌝ }
     ensures { λ q. ⌜ RanAll p (now (s .entry)) (now (out .entry)) (now (out .exit)) q ⌝ }
 {
     let mut q = p;

@@ -1,0 +1,30 @@
+-- The replica after the entries is the replica after the calls that they stand for.
+use Prim.Native.Nat.{ℕ, zero, suc}
+use mathlib.Core.Path.{_≡_, refl, _∙_}
+use mathlib.Core.List.{List, [], _∷_, _++_}
+use Rattle.creek.specs.Book.{Call}
+use Rattle.creek.specs.Calls.{Replica, step}
+use Rattle.creek.specs.History.{run, due, settleDown}
+use Rattle.driver.specs.Encoding.{Entry, one, allDue, owedBy, after, runEntries, dueCalls, callsIn, callsOf}
+
+run-append : (r : Replica) (cs ds : List Call) → run r (cs ++ ds) ≡ run (run r cs) ds
+unfolding run
+run-append r [] ds = refl
+run-append r (c ∷ cs) ds = run-append (step r c) cs ds
+
+-- so many due steps are a run of as many due calls
+run-due : (k : ℕ) (r : Replica) → run r (dueCalls k r) ≡ settleDown k r
+unfolding run dueCalls settleDown
+run-due zero r = refl
+run-due (suc k) r = run-due k (step r (due (r .book .execution)))
+
+run-entry : (r : Replica) (x : Entry) → run r (callsIn r x) ≡ after r x
+unfolding callsIn after run
+run-entry r (one c) = refl
+run-entry r allDue = run-due (owedBy r) r
+
+pub run-expanded : (r : Replica) (xs : List Entry) → run r (callsOf r xs) ≡ runEntries r xs
+unfolding callsOf runEntries run
+run-expanded r [] = refl
+run-expanded r (x ∷ xs) =
+    run-append r (callsIn r x) (callsOf (after r x) xs) ∙ rw (run-entry r x) (run-expanded (after r x) xs)
