@@ -2,8 +2,16 @@
 //! Algorithms 1 and 2 of Creek. It shares no code with the first and is there
 //! to be compared with it: one call, one message or one printout at a time.
 
+pub mod board;
+pub mod calls;
+pub mod cases;
+pub mod difference;
+pub mod fields;
 pub mod panel;
 pub mod printout;
+pub mod progress;
+#[cfg(feature = "proved")]
+pub mod proved;
 pub mod random;
 pub mod refusal;
 pub mod request;

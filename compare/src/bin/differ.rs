@@ -1,0 +1,194 @@
+//! Compares the proved library with this crate on the stored cases and then on
+//! seeded ones: `differ [SEED [CALLS]]`. Ends at the first difference, shrunk.
+
+use std::path::Path;
+use std::{env, fs, io, process};
+
+use mizzencord_compare::board::{Board, Handwritten, MOST_PRINTED};
+use mizzencord_compare::calls::ANSWER_SIZE;
+use mizzencord_compare::cases;
+use mizzencord_compare::difference::{Case, Function, Outcome};
+use mizzencord_compare::progress::{progress, progress_ends};
+use mizzencord_compare::proved::Proved;
+use mizzencord_compare::random::Random;
+
+const SEED: u64 = 1;
+const CALLS: usize = 5_000_000;
+
+/// How often the progress is told.
+const PROGRESS_LINES: usize = 20;
+
+/// The refusals of document 01 and 0.
+const REFUSALS: usize = 22;
+
+/// How long the lists of calls of one round are.
+const LENGTHS: [usize; 12] = [1, 4, 10, 20, 40, 60, 60, 100, 200, 400, 400, 1500];
+
+/// What was compared so far.
+#[derive(Default)]
+struct Counts {
+    lists: usize,
+    calls: usize,
+    refusals: [usize; REFUSALS],
+    printouts: usize,
+    printed: usize,
+    readings: Tally,
+    writings: Tally,
+}
+
+#[derive(Default)]
+struct Tally {
+    accepted: usize,
+    ended: usize,
+    refused: [usize; REFUSALS],
+}
+
+impl Tally {
+    /// Counts a result: bytes, or 256 times the refusal.
+    fn count(&mut self, result: usize) {
+        match result {
+            0 => self.ended += 1,
+            1..256 => self.accepted += 1,
+            _ => self.refused[result / 256] += 1,
+        }
+    }
+
+    fn total(&self) -> usize {
+        self.accepted + self.ended + self.refused.iter().sum::<usize>()
+    }
+}
+
+struct Comparison {
+    counts: Counts,
+    proved: Outcome,
+    handwritten: Outcome,
+}
+
+impl Comparison {
+    fn compare(&mut self, case: &Case) {
+        self.proved.take(&Proved, case);
+        self.handwritten.take(&Handwritten, case);
+        if self.proved != self.handwritten {
+            report(case);
+        }
+        self.count(case);
+    }
+
+    fn count(&mut self, case: &Case) {
+        let counts = &mut self.counts;
+        let result = self.proved.result;
+        match case.function {
+            Function::Run => {
+                counts.lists += 1;
+                counts.calls += result;
+                for answer in self.proved.out.chunks_exact(ANSWER_SIZE).take(result) {
+                    counts.refusals[answer[0] as usize] += 1;
+                }
+            }
+            Function::Print => {
+                counts.printouts += 1;
+                counts.printed += result;
+            }
+            Function::Read => counts.readings.count(result),
+            Function::Write => counts.writings.count(result),
+        }
+    }
+}
+
+/// Shows the least part of a case on which the two differ, keeps it, and ends.
+fn report(case: &Case) -> ! {
+    let small = case.shrunk(&Proved, &Handwritten);
+    let boards: [&dyn Board; 2] = [&Proved, &Handwritten];
+    progress_ends();
+    println!("DIFFERENCE\n{}", small.show(["proved", "handwritten"], boards));
+    let file = env::temp_dir().join("mizzencord-difference.case");
+    match fs::write(&file, small.store()) {
+        Ok(()) => println!("stored in {}: once mended, keep it in compare/cases/", file.display()),
+        Err(error) => println!("not stored: {error}"),
+    }
+    process::exit(1);
+}
+
+fn stored_cases(folder: &Path) -> io::Result<Vec<Case>> {
+    let mut files: Vec<_> = fs::read_dir(folder.join("compare/cases"))?.collect::<Result<_, _>>()?;
+    files.sort_by_key(|file| file.path());
+    let mut cases = Vec::new();
+    for file in files.iter().filter(|file| file.path().extension().is_some_and(|end| end == "case")) {
+        let case = Case::stored(&fs::read(file.path())?);
+        cases.push(case.unwrap_or_else(|| panic!("{} is no case", file.path().display())));
+    }
+    for name in ["worked", "busy", "awkward"] {
+        let bytes = fs::read(folder.join("examples").join(name).with_extension("bin"))?;
+        cases.push(Case { function: Function::Print, bytes, at: 0, room: MOST_PRINTED });
+    }
+    Ok(cases)
+}
+
+fn main() -> io::Result<()> {
+    let arguments: Vec<u64> = env::args().skip(1).map(|word| word.parse().expect("a number")).collect();
+    let seed = arguments.first().copied().unwrap_or(SEED);
+    let calls = arguments.get(1).map_or(CALLS, |calls| *calls as usize);
+    let folder = Path::new(env!("CARGO_MANIFEST_DIR")).join("..");
+    let mut comparison =
+        Comparison { counts: Counts::default(), proved: Outcome::default(), handwritten: Outcome::default() };
+    let stored = stored_cases(&folder)?;
+    for case in &stored {
+        comparison.compare(case);
+    }
+    println!("seed {seed}; stored cases: {}", stored.len());
+    let mut random = Random::new(seed);
+    let mut next_line = 0;
+    while comparison.counts.calls < calls {
+        round(&mut comparison, &mut random);
+        let counts = &comparison.counts;
+        if counts.calls >= next_line {
+            progress(&format!("{} of {calls} calls, {} printouts", counts.calls, counts.printouts));
+            next_line += calls / PROGRESS_LINES;
+        }
+    }
+    progress_ends();
+    summary(&comparison.counts);
+    Ok(())
+}
+
+fn round(comparison: &mut Comparison, random: &mut Random) {
+    for length in LENGTHS {
+        comparison.compare(&cases::list_of_calls(random.word(), length));
+    }
+    for _ in 0..4 {
+        comparison.compare(&cases::printed(random.word()));
+    }
+    for _ in 0..20 {
+        for case in cases::readings(random.word()) {
+            comparison.compare(&case);
+        }
+    }
+    for _ in 0..200 {
+        comparison.compare(&cases::writing(random.word()));
+    }
+}
+
+fn summary(counts: &Counts) {
+    println!(
+        "calls: {} in {} lists; {}",
+        counts.calls,
+        counts.lists,
+        by_number(counts.refusals[0], &counts.refusals)
+    );
+    println!("printouts: {} with {} bytes", counts.printouts, counts.printed);
+    for (name, tally) in [("read", &counts.readings), ("written", &counts.writings)] {
+        println!(
+            "messages {name}: {}; at the end {}; {}",
+            tally.total(),
+            tally.ended,
+            by_number(tally.accepted, &tally.refused)
+        );
+    }
+    println!("no difference");
+}
+
+fn by_number(accepted: usize, refusals: &[usize; REFUSALS]) -> String {
+    let numbers = refusals.iter().enumerate().skip(1).filter(|(_, count)| **count > 0);
+    let refused: Vec<String> = numbers.map(|(number, count)| format!("{number}: {count}")).collect();
+    format!("accepted {accepted}, refused by number {}", refused.join(", "))
+}

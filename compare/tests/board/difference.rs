@@ -1,0 +1,145 @@
+//! The comparison itself: a planted fault is found and shrunk, and cases and
+//! calls come back from their bytes.
+
+use mizzencord_compare::board::{Board, Handwritten};
+use mizzencord_compare::calls::{self, ANSWER_SIZE};
+use mizzencord_compare::cases;
+use mizzencord_compare::difference::{differ, Case, Function};
+use mizzencord_compare::panel::{MARK_STABLE, MARK_TENTATIVE};
+use mizzencord_compare::random::Call;
+use mizzencord_compare::refusal::{BAD_CONTEXT, CUT_SHORT, NO_ROOM};
+use mizzencord_compare::request::*;
+
+/// Shows a stable reply as a tentative one, and writes a byte too many.
+struct Faulty;
+
+impl Board for Faulty {
+    fn print(&self, input: &[u8], out: &mut [u8]) -> usize {
+        let length = Handwritten.print(input, out);
+        if let Some(behind) = out.get_mut(length) {
+            *behind = 0;
+        }
+        length
+    }
+
+    fn run(&self, calls: &[u8], out: &mut [u8]) -> usize {
+        let ran = Handwritten.run(calls, out);
+        for answer in out.chunks_exact_mut(ANSWER_SIZE).take(ran) {
+            if answer[1] == MARK_STABLE {
+                answer[1] = MARK_TENTATIVE;
+            }
+        }
+        ran
+    }
+
+    fn read(&self, bytes: &[u8], at: usize, out: &mut [u8]) -> usize {
+        Handwritten.read(bytes, at, out)
+    }
+
+    fn write(&self, fields: &[u8], out: &mut [u8]) -> usize {
+        Handwritten.write(fields, out)
+    }
+}
+
+#[test]
+fn a_planted_fault_is_found_and_shrunk() {
+    let mut lists = (0..200).map(|seed| cases::list_of_calls(seed, 100));
+    let found = lists.find(|case| differ(&Handwritten, &Faulty, case)).expect("a list with a stable reply");
+    let small = found.shrunk(&Handwritten, &Faulty);
+    assert!(differ(&Handwritten, &Faulty, &small));
+    let calls: Vec<Call> = calls::each(&small.bytes).map(calls::decode).collect();
+    assert_eq!(calls.len(), 3, "{calls:?}");
+    assert!(matches!(calls[0], Call::Make(_, true, _)));
+    assert!(calls[1..].contains(&Call::CarryOut));
+    assert!(calls[1..].iter().any(|call| matches!(call, Call::Settle(_))));
+    let shown = small.show(["one", "other"], [&Handwritten, &Faulty]);
+    assert!(shown.contains("mark: 3") && shown.contains("mark: 2"), "{shown}");
+}
+
+#[test]
+fn a_byte_too_many_is_found() {
+    let case = cases::printed(1);
+    assert!(differ(&Handwritten, &Faulty, &case));
+    assert!(!differ(&Handwritten, &Handwritten, &case));
+}
+
+#[test]
+fn a_board_is_no_different_from_itself() {
+    for seed in 0..100 {
+        let mut all = vec![cases::list_of_calls(seed, 60), cases::printed(seed), cases::writing(seed)];
+        all.extend(cases::readings(seed));
+        assert!(all.iter().all(|case| !differ(&Handwritten, &Handwritten, case)));
+    }
+}
+
+#[test]
+fn stored_cases_come_back() {
+    for seed in 0..20 {
+        let mut all = vec![cases::list_of_calls(seed, 5), cases::printed(seed), cases::writing(seed)];
+        all.extend(cases::readings(seed));
+        assert!(all.iter().all(|case| Case::stored(&case.store()).as_ref() == Some(case)));
+    }
+    assert_eq!(Case::stored(b"read room 4 at x\n"), None);
+    assert_eq!(Case::stored(b"print"), None);
+    let case = Case { function: Function::Write, bytes: vec![10, 0], at: 0, room: 7 };
+    assert_eq!(case.store(), b"write room 7 at 0\n\n\0");
+}
+
+/// docs/CALLS.md, byte by byte.
+#[test]
+fn calls_and_answers_are_laid_out() {
+    let mut bytes = vec![3, 2];
+    assert!(calls::append(&mut bytes, &Call::Make(Operation::new(SET, 4, 0, 0x0102), false, Clock(9))));
+    assert!(calls::append(&mut bytes, &Call::CarryOut));
+    assert_eq!(bytes.len(), 2 + 2 * 83);
+    assert_eq!(bytes[2..22], [1, 18, 0, 1, 0, 0, 0, 9, 0, 0, 0, 2, 4, 0, 0, 2, 1, 0, 0, 0]);
+    assert_eq!(bytes[85], 3);
+    let mut out = [7; 2 * 90 + 1];
+    assert_eq!(Handwritten.run(&bytes, &mut out[..179]), 0);
+    assert_eq!(Handwritten.run(&bytes, &mut out), 2);
+    assert_eq!(out[..8], [0; 8]);
+    assert_eq!(out[8..26], [18, 0, 1, 0, 2, 1, 9, 0, 0, 0, 2, 4, 0, 0, 2, 1, 0, 0]);
+    assert!(out[26..90].iter().all(|byte| *byte == 0));
+    assert_eq!(out[90..98], [0, 1, 2, 1, 0, 0, 0, 0]);
+    assert_eq!(out[98..116], [18, 0, 1, 0, 0, 0, 0, 0, 0, 0, 0, 0, 0, 0, 0, 0, 0, 0]);
+    assert_eq!(out[180], 7);
+}
+
+#[test]
+fn all_due_steps_are_answered_by_their_count() {
+    let mut bytes = vec![1, 0];
+    let make = Call::Make(Operation::new(ADD, 0, 0, 5), true, Clock(1));
+    for call in [make, make, Call::RunDue, Call::RunDue, Call::Settle(Number::new(0, 1))] {
+        assert!(calls::append(&mut bytes, &call));
+    }
+    let mut out = [7; 5 * 90];
+    assert_eq!(Handwritten.run(&bytes, &mut out), 5);
+    assert_eq!(bytes[2 + 2 * 83], 4);
+    assert_eq!(out[180..188], [0, 0, 0, 0, 2, 0, 0, 0]);
+    assert_eq!(out[188..192], [18, 0, 1, 0]);
+    assert!(out[192..270].iter().all(|byte| *byte == 0));
+    assert_eq!(out[270..278], [0; 8]);
+    assert_eq!(out[360..368], [0, 3, 0, 0, 5, 0, 0, 0]);
+}
+
+#[test]
+fn fields_are_laid_out() {
+    let settlement = [6, 0, 3, 0, 5, 64];
+    let mut out = [9; 83];
+    assert_eq!(Handwritten.read(&settlement, 0, &mut out), 6);
+    assert_eq!(out[..6], [1, 0, 0, 0, 5, 64]);
+    assert!(out[6..82].iter().all(|byte| *byte == 0));
+    assert_eq!(out[82], 9);
+    assert_eq!(Handwritten.read(&settlement, 6, &mut out), 0);
+    assert_eq!(Handwritten.read(&settlement, 4, &mut out), 256 * CUT_SHORT as usize);
+    assert_eq!(Handwritten.read(&settlement, 0, &mut out[..81]), 256 * NO_ROOM as usize);
+    let mut part = [9; 7];
+    assert_eq!(Handwritten.write(&out[..82], &mut part), 6);
+    assert_eq!(part, [6, 0, 3, 0, 5, 64, 9]);
+    assert_eq!(Handwritten.write(&out[..81], &mut part), 256 * CUT_SHORT as usize);
+    out[..4].fill(0);
+    out[81] = 1;
+    assert_eq!(Handwritten.write(&out[..82], &mut part), 256 * BAD_CONTEXT as usize);
+    out[3] = 1;
+    assert_eq!(Handwritten.write(&out[..82], &mut part), 256 * NO_ROOM as usize);
+}
