@@ -10,9 +10,10 @@ use borrow.Author.Tests.{lt-ltb, le-ltb}
 use Rattle.creek.specs.Calls.{Replica}
 use Rattle.replica.specs.declared.State.{State}
 use Rattle.replica.specs.declared.Opened.{Opened}
-use Rattle.replica.specs.Model.{Fresh}
+use Rattle.replica.specs.Model.{model, Fresh}
 use Rattle.driver.specs.Encoding.{panelsOf, ownOf, callsAt, callCount, entriesOf, answerSize, answersBytes}
-use Rattle.driver.specs.Encoding.{runEntries, tight, entriesRun, RanAll, Ran}
+use Rattle.driver.specs.Encoding.{runEntries, freshOf, tight, entriesRun, RanAll, Ran}
+use Rattle.driver.proofs.Expanded.{run-expanded}
 use Rattle.driver.proofs.SizeLaws.{length-calls}
 
 module _ (s out : List ℕ) (panels own : ℕ) (o : Opened) (is-panels : panels ≡ panelsOf s) (is-own : own ≡ ownOf s)
@@ -27,11 +28,13 @@ module _ (s out : List ℕ) (panels own : ℕ) (o : Opened) (is-panels : panels 
     unfolding entriesRun runEntries answersBytes
     ran-nothing h =
         let e : tight s out ≡ true = lt-ltb (length out / answerSize) (callCount s) (omega (arith, counted)) in
+        let last : model (o .state) ≡ runEntries (freshOf s) (entriesRun s out) = rw e (opened-of .state) in
         record {
           room = rw e refl;
           refusal = opened-of .refusal;
           ran = rw e refl;
-          state = rw e (opened-of .state);
+          state = last;
+          calls = last ∙ sym (run-expanded (freshOf s) (entriesRun s out));
           answers = rw e refl;
           invariant = opened-of .invariant;
         }
@@ -42,11 +45,14 @@ module _ (s out : List ℕ) (panels own : ℕ) (o : Opened) (is-panels : panels 
     unfolding entriesRun entriesOf
     ran-all h out′ q all =
         let e : tight s out ≡ false = le-ltb (length out / answerSize) (callCount s) (omega (arith, counted)) in
+        let last : model q ≡ runEntries (freshOf s) (entriesRun s out) =
+        rw e (all .state ∙ ap (λ (r : Replica). runEntries r (entriesOf s)) (opened-of .state)) in
         record {
           room = rw e refl;
           refusal = opened-of .refusal;
           ran = rw e (counted ∙ sym (length-calls s callsAt (callCount s)));
-          state = rw e (all .state ∙ ap (λ (r : Replica). runEntries r (entriesOf s)) (opened-of .state));
+          state = last;
+          calls = last ∙ sym (run-expanded (freshOf s) (entriesRun s out));
           answers = rw e (all .answers ∙ ap (λ (r : Replica). sets out 0 (answersBytes r (entriesOf s))) (opened-of .state));
           invariant = all .invariant;
         }

@@ -14,7 +14,7 @@ use Rattle.creek.specs.Book.{Call, invoke, deliver, commit, undo, execute}
 use Rattle.creek.specs.Execution.{owed}
 use Rattle.creek.specs.Replies.{noMark, reply}
 use Rattle.creek.specs.Calls.{Replica, fresh, freshRefusal, step, answer}
-use Rattle.creek.specs.History.{due, settleDown}
+use Rattle.creek.specs.History.{run, due, settleDown}
 use Rattle.replica.specs.declared.State.{State}
 use Rattle.replica.specs.declared.Called.{Called}
 use Rattle.replica.specs.Model.{Inv, model}
@@ -144,7 +144,7 @@ unfoldable pub callsIn : Replica → Entry → List Call
 callsIn r (one c) = c ∷ []
 callsIn r allDue = dueCalls (owedBy r) r
 
--- the calls of all entries; `proofs/Expanded` says that the replica after the entries is the one after these calls
+-- the calls of all entries
 unfoldable pub callsOf : Replica → List Entry → List Call
 callsOf r [] = []
 callsOf r (x ∷ xs) = callsIn r x ++ callsOf (after r x) xs
@@ -208,8 +208,9 @@ pub record Ran (s out out′ : List ℕ) (r : RanOf) : Type 0 where
   pub room : r .room ≡ not (tight s out)
   pub refusal : r .refusal ≡ freshRefusal (panelsOf s) (ownOf s)
   pub ran : r .ran ≡ length (entriesRun s out)
-  -- the state is the run of the entries
+  -- the state is the run of the entries, which is `creek`'s run of the calls that they stand for
   pub state : model (r .state) ≡ runEntries (freshOf s) (entriesRun s out)
+  pub calls : model (r .state) ≡ run (freshOf s) (callsOf (freshOf s) (entriesRun s out))
   -- the answers stand at the front, and every other byte is as it was
   pub answers : out′ ≡ sets out 0 (answersBytes (freshOf s) (entriesRun s out))
   pub invariant : Inv (r .state)
