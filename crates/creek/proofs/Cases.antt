@@ -1,10 +1,10 @@
 -- The ● cases, the faults that a panel could hide, and that the bound is reached: by computation.
 use mathlib.Core.Path.{_≡_, refl}
 use mathlib.Core.List.{map}
-use Rattle.request.specs.Numbers.{sameNumber, badNumber}
+use Rattle.numbers.specs.Numbers.{sameNumber, badNumber}
 use Rattle.request.specs.Operations.{sameOperation, badOperation}
-use Rattle.request.specs.Sets.{sameWords, sameContext, allZero, isEmpty, namesFrom, bit, member, join, leave}
-use Rattle.request.specs.Sets.{lackedWords, difference, subset}
+use Rattle.sets.specs.Sets.{sameWords, sameContext, allZero, isEmpty, namesFrom, bit, member, join, leave}
+use Rattle.sets.specs.Sets.{lackedWords, difference, subset}
 use Rattle.request.specs.Order.{before}
 use Rattle.request.specs.Request.{sameRequest, badContext}
 use Rattle.registers.specs.Effect.{offBoard, added, claimed, movable, moved, exec, response}

@@ -7,14 +7,14 @@ use mathlib.Core.List.{List, [], _∷_}
 use lib.ListN.{length}
 use lib.Dec.{leb, ltb}
 use borrow.Author.Tests.{ltb-true, le-leb, not-false}
-use Rattle.request.specs.declared.Context.{Context}
-use Rattle.request.specs.declared.Number.{Number}
+use Rattle.sets.specs.declared.Context.{Context}
+use Rattle.numbers.specs.declared.Number.{Number}
 use Rattle.request.specs.declared.Request.{Request}
-use Rattle.request.specs.Sets.{namesFrom, member, leave}
+use Rattle.sets.specs.Sets.{namesFrom, member, leave}
 use Rattle.lists.proofs.BoolLaws.{both-true}
-use Rattle.request.proofs.NumberLaws.{sameNumber-sym}
-use Rattle.request.proofs.SetLaws.{member-leave, leave-length}
-use Rattle.request.proofs.PanelLaws.{namesFrom-leave}
+use Rattle.numbers.proofs.NumberLaws.{sameNumber-sym}
+use Rattle.sets.proofs.SetLaws.{member-leave, leave-length}
+use Rattle.sets.proofs.PanelLaws.{namesFrom-leave}
 use Rattle.lists.specs.Lists.{one, count, somePasses}
 use Rattle.creek.specs.Plan.{hasNumber, without}
 use Rattle.lists.proofs.ListLaws.{one-zero}

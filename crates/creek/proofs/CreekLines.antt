@@ -7,13 +7,13 @@ use mathlib.Core.Bool.{Bool, true, false, not, _&&_, cond}
 use mathlib.Core.List.{List, [], _∷_, _++_, reverse}
 use lib.ListN.{length, take, drop, length-take, take-append-drop}
 use borrow.Author.Tests.{le-leb, lt-leb, not-false}
-use Rattle.request.specs.declared.Number.{Number}
+use Rattle.numbers.specs.declared.Number.{Number}
 use Rattle.request.specs.declared.Request.{Request}
-use Rattle.request.specs.Sets.{emptySet, member}
+use Rattle.sets.specs.Sets.{emptySet, member}
 use Rattle.request.specs.Order.{before}
 use Rattle.request.specs.Request.{sameRequest}
 use Rattle.lists.proofs.BoolLaws.{true-not-false}
-use Rattle.request.proofs.NumberLaws.{sameNumber-self}
+use Rattle.numbers.proofs.NumberLaws.{sameNumber-self}
 use Rattle.request.proofs.OrderLaws.{before-irreflexive, before-transitive, before-total}
 use Rattle.request.proofs.EqualityLaws.{sameRequest-sound, sameRequest-self}
 use Rattle.creek.specs.declared.Invocation.{Invocation}

@@ -8,21 +8,21 @@ use mathlib.Core.List.{List, _∷_}
 use lib.ListN.{length}
 use lib.Dec.{ltb, eqb}
 use borrow.Author.Tests.{ltb-true, eqb-true, lt-ltb}
-use Rattle.request.specs.declared.Context.{Context}
-use Rattle.request.specs.declared.Number.{Number}
+use Rattle.sets.specs.declared.Context.{Context}
+use Rattle.numbers.specs.declared.Number.{Number}
 use Rattle.request.specs.declared.Request.{Request}
-use Rattle.request.specs.Numbers.{sameNumber, badNumber, mostPanels, GoodNumber, slotOf, numberOf}
+use Rattle.numbers.specs.Numbers.{sameNumber, badNumber, mostPanels, GoodNumber, slotOf, numberOf}
 use Rattle.request.specs.Operations.{badOperation}
-use Rattle.request.specs.Sets.{member, join}
+use Rattle.sets.specs.Sets.{member, join}
 use Rattle.request.specs.Request.{badContext}
 use Rattle.lists.proofs.BoolLaws.{true-not-false, both-true, both, neither-true}
-use Rattle.request.proofs.NumberLaws.{good-number, sameNumber-sound, sameNumber-self, slot-fits, number-of-slot}
-use Rattle.request.proofs.SetLaws.{member-join, join-length}
+use Rattle.numbers.proofs.NumberLaws.{good-number, sameNumber-sound, sameNumber-self, slot-fits, number-of-slot}
+use Rattle.sets.proofs.SetLaws.{member-join, join-length}
 use Rattle.lists.specs.Lists.{one, count}
 use Rattle.creek.specs.Plan.{hasNumber, isOf}
 use Rattle.creek.specs.Sound.{mostRequests, isBad, ownBeyond, Held}
 use Rattle.lists.proofs.ListLaws.{one-true, one-false, count-implies, count-weaker, count-all, pigeonhole}
-use Rattle.request.proofs.PanelLaws.{namesFrom-join}
+use Rattle.sets.proofs.PanelLaws.{namesFrom-join}
 
 -- ---- a request that is not bad
 

@@ -6,13 +6,13 @@ use mathlib.Core.Bool.{Bool, true, false}
 use mathlib.Core.List.{_∷_}
 use mathlib.Core.Option.{some}
 use borrow.Author.Tests.{eq-eqb}
-use Rattle.request.specs.declared.Number.{Number}
+use Rattle.numbers.specs.declared.Number.{Number}
 use Rattle.request.specs.declared.Request.{Request}
-use Rattle.request.specs.Numbers.{numbered, badNumber}
+use Rattle.numbers.specs.Numbers.{numbered, badNumber}
 use Rattle.request.specs.Request.{sameRequest}
 use Rattle.request.specs.Refusal as refused
 use Rattle.lists.proofs.BoolLaws.{true-not-false}
-use Rattle.request.proofs.NumberLaws.{sameNumber-sound, sameNumber-self}
+use Rattle.numbers.proofs.NumberLaws.{sameNumber-sound, sameNumber-self}
 use Rattle.request.proofs.EqualityLaws.{sameRequest-sound, sameRequest-self}
 use Rattle.creek.specs.declared.Invocation.{Invocation}
 use Rattle.lists.specs.Lists.{one, someIf, find}

@@ -8,19 +8,19 @@ use mathlib.Core.Option.{Option, none, some}
 use lib.ListN.{length}
 use lib.Dec.{T, ltb, ltb→lt}
 use borrow.Author.Tests.{leb-false, eq-eqb, lt-ltb, le-ltb, not-false}
-use Rattle.request.specs.declared.Context.{Context}
-use Rattle.request.specs.declared.Number.{Number}
+use Rattle.sets.specs.declared.Context.{Context}
+use Rattle.numbers.specs.declared.Number.{Number}
 use Rattle.request.specs.declared.Request.{Request}
-use Rattle.request.specs.Numbers.{sameNumber, badNumber, mostPanels, mostEvents, GoodNumber}
+use Rattle.numbers.specs.Numbers.{sameNumber, badNumber, mostPanels, mostEvents, GoodNumber}
 use Rattle.request.specs.Operations.{badOperation}
-use Rattle.request.specs.Sets.{emptySet, isEmpty, namesFrom, member, join, subset}
+use Rattle.sets.specs.Sets.{emptySet, isEmpty, namesFrom, member, join, subset}
 use Rattle.request.specs.Order.{before}
 use Rattle.request.specs.Request.{sameRequest, badContext}
 use Rattle.request.specs.Refusal as refused
 use Rattle.lists.proofs.BoolLaws.{true-not-false, both-true, both, neither-true, neither, first-false, second-false}
-use Rattle.request.proofs.NumberLaws.{good-number, number-good, sameNumber-sound, sameNumber-self}
+use Rattle.numbers.proofs.NumberLaws.{good-number, number-good, sameNumber-sound, sameNumber-self}
 use Rattle.request.proofs.OrderLaws.{before-transitive, before-total}
-use Rattle.request.proofs.SetLaws.{member-join, member-empty, empty-set-empty, subset-member}
+use Rattle.sets.proofs.SetLaws.{member-join, member-empty, empty-set-empty, subset-member}
 use Rattle.creek.specs.declared.Invocation.{Invocation}
 use Rattle.lists.specs.Lists.{one, count, keep, find, Ordered}
 use Rattle.creek.specs.Plan.{Plan, order, hasNumber, held, isOf, lastEvent, lastClock, knownWith, placed, entered, without}
@@ -30,7 +30,7 @@ use Rattle.creek.specs.Sound.{isBad, ownBeyond, Held, unknown, knownAgai
 use Rattle.lists.proofs.ListLaws.{one-true, one-false, count-append, count-implies, count-never, count-weaker, counts-length}
 use Rattle.lists.proofs.ListLaws.{none-passes-count, count-keep, count-split, keep-found, find-none, found-passes, found-counts}
 use Rattle.lists.proofs.ListLaws.{found-not, find-skip, count-insert, keep-ordered, insert-ordered}
-use Rattle.request.proofs.PanelLaws.{namesFrom-empty}
+use Rattle.sets.proofs.PanelLaws.{namesFrom-empty}
 use Rattle.creek.proofs.ContextLaws.{beyond, without-member, without-namesFrom}
 use Rattle.creek.proofs.HeldLaws.{Good, good-request, widened, number-held, held-moved, held-known, held-more}
 

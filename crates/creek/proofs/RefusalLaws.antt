@@ -3,12 +3,12 @@ use native.Mathlib.Omega.{arith}
 use mathlib.Core.Path.{_≡_, refl, sym, ap, _∙_}
 use mathlib.Core.Bool.{Bool, true, false, not}
 use mathlib.Core.Option.{some}
-use Rattle.request.specs.declared.Number.{Number}
+use Rattle.numbers.specs.declared.Number.{Number}
 use Rattle.request.specs.declared.Request.{Request}
-use Rattle.request.specs.Numbers.{badNumber}
-use Rattle.request.specs.Sets.{Words, subset}
+use Rattle.numbers.specs.Numbers.{badNumber}
+use Rattle.sets.specs.Sets.{Words, subset}
 use Rattle.request.specs.Refusal as refused
-use Rattle.request.proofs.LowestLaws.{Missing, lacking-is-missing}
+use Rattle.sets.proofs.LowestLaws.{Missing, lacking-is-missing}
 use Rattle.creek.specs.Plan.{Plan, held, met, isCommitted, waits, foundRefusal, commitRefusal}
 use Rattle.creek.specs.Book.{commit, refusal}
 use Rattle.creek.specs.Replies.{namedByRefusal, answerOf}

@@ -4,9 +4,9 @@ use native.Mathlib.Omega.{arith}
 use mathlib.Core.Path.{_≡_, refl, sym, ap, _∙_}
 use mathlib.Core.Bool.{Bool, true, false, cond}
 use mathlib.Core.List.{List, [], _∷_, _++_}
-use Rattle.request.specs.declared.Number.{Number}
+use Rattle.numbers.specs.declared.Number.{Number}
 use Rattle.request.specs.declared.Request.{Request}
-use Rattle.request.proofs.NumberLaws.{sameNumber-self}
+use Rattle.numbers.proofs.NumberLaws.{sameNumber-self}
 use Rattle.registers.specs.Effect.{exec, response}
 use Rattle.registers.specs.Replay.{zeroBoard, replayOn, replay}
 use Rattle.lists.specs.Lists.{one, count}

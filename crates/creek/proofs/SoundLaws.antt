@@ -9,11 +9,11 @@ use lib.ListN.{length, length-append}
 use lib.Dec.{leb, ltb}
 use borrow.Author.Tests.{leb-true, ltb-true, not-false}
 use Rattle.request.specs.declared.Request.{Request}
-use Rattle.request.specs.Numbers.{mostPanels}
-use Rattle.request.specs.Sets.{subset}
+use Rattle.numbers.specs.Numbers.{mostPanels}
+use Rattle.sets.specs.Sets.{subset}
 use Rattle.request.specs.Refusal as refused
 use Rattle.lists.proofs.BoolLaws.{true-not-false, both-true, neither-true}
-use Rattle.request.proofs.SetLaws.{member-empty}
+use Rattle.sets.proofs.SetLaws.{member-empty}
 use Rattle.lists.specs.Lists.{count, find, nil}
 use Rattle.creek.specs.Plan.{Plan, order, hasNumber, entered, made, committing}
 use Rattle.creek.specs.Execution.{Execution, nothingExecuted, adjusted, undone, undoRefusal, executedNext, executeRefusal}
@@ -23,7 +23,7 @@ use Rattle.creek.specs.History.{run}
 use Rattle.creek.specs.Sound.{SoundPlan, WithinBound, SoundBook, Sound}
 use Rattle.creek.proofs.CallLaws.{by-outcome}
 use Rattle.lists.proofs.ListLaws.{count-append, count-most}
-use Rattle.request.proofs.PanelLaws.{namesFrom-empty}
+use Rattle.sets.proofs.PanelLaws.{namesFrom-empty}
 use Rattle.creek.proofs.HeldLaws.{held-few}
 use Rattle.creek.proofs.PlanLaws.{New, made-new, heard-new, commits, entered-count, entered-length, entered-committed}
 use Rattle.creek.proofs.PlanLaws.{entered-sound, committing-starts, committing-count, committing-length, committing-sound}

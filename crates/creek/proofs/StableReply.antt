@@ -7,15 +7,15 @@ use mathlib.Core.Bool.{Bool, true, false, _&&_, cond}
 use mathlib.Core.List.{List, [], _∷_, _++_, append-assoc, append-nil}
 use mathlib.Core.Option.{Option, none, some}
 use lib.ListN.{length, take, drop, take-append-drop}
-use Rattle.request.specs.declared.Context.{Context}
-use Rattle.request.specs.declared.Number.{Number}
+use Rattle.sets.specs.declared.Context.{Context}
+use Rattle.numbers.specs.declared.Number.{Number}
 use Rattle.request.specs.declared.Request.{Request}
-use Rattle.request.specs.Numbers.{noNumber, sameNumber}
-use Rattle.request.specs.Sets.{member}
+use Rattle.numbers.specs.Numbers.{noNumber, sameNumber}
+use Rattle.sets.specs.Sets.{member}
 use Rattle.request.specs.Request.{sameRequest}
 use Rattle.request.specs.Refusal as refused
 use Rattle.lists.proofs.BoolLaws.{both-true}
-use Rattle.request.proofs.NumberLaws.{sameNumber-sound, sameNumber-self}
+use Rattle.numbers.proofs.NumberLaws.{sameNumber-sound, sameNumber-self}
 use Rattle.registers.specs.Effect.{response}
 use Rattle.registers.specs.Replay.{replay}
 use Rattle.creek.specs.declared.Answer.{Answer}

@@ -5,15 +5,15 @@ use mathlib.Core.Path.{_≡_, refl, sym, ap, _∙_}
 use mathlib.Core.Bool.{Bool, true, false, not, _&&_, cond}
 use mathlib.Core.List.{List, [], _∷_}
 use lib.ListN.{length}
-use Rattle.request.specs.declared.Context.{Context}
-use Rattle.request.specs.declared.Number.{Number}
+use Rattle.sets.specs.declared.Context.{Context}
+use Rattle.numbers.specs.declared.Number.{Number}
 use Rattle.request.specs.declared.Request.{Request}
-use Rattle.request.specs.Numbers.{sameNumber, mostPanels, GoodNumber}
-use Rattle.request.specs.Sets.{member, join, leave}
+use Rattle.numbers.specs.Numbers.{sameNumber, mostPanels, GoodNumber}
+use Rattle.sets.specs.Sets.{member, join, leave}
 use Rattle.request.specs.Refusal as refused
 use Rattle.lists.proofs.BoolLaws.{true-not-false, both-true, both, neither, first-false, second-false}
-use Rattle.request.proofs.NumberLaws.{good-number, sameNumber-sound, sameNumber-self}
-use Rattle.request.proofs.SetLaws.{member-join, join-length, member-leave, leave-length}
+use Rattle.numbers.proofs.NumberLaws.{good-number, sameNumber-sound, sameNumber-self}
+use Rattle.sets.proofs.SetLaws.{member-join, join-length, member-leave, leave-length}
 use Rattle.creek.specs.declared.Invocation.{Invocation}
 use Rattle.lists.specs.Lists.{one, count, keep}
 use Rattle.creek.specs.Plan.{Plan, order, hasNumber, isOf, entered, made, stays, committing, committingNumber, isCommitted}

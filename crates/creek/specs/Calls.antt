@@ -2,9 +2,9 @@
 use Prim.Native.Nat.{ℕ, _+_}
 use mathlib.Core.Bool.{Bool, true, false, not, _&&_, _||_, cond}
 use lib.Dec.{leb, ltb}
-use Rattle.request.specs.declared.Context.{Context}
-use Rattle.request.specs.Numbers.{mostPanels}
-use Rattle.request.specs.Sets.{emptySet}
+use Rattle.sets.specs.declared.Context.{Context}
+use Rattle.numbers.specs.Numbers.{mostPanels}
+use Rattle.sets.specs.Sets.{emptySet}
 use Rattle.request.specs.Refusal as refused
 use Rattle.creek.specs.declared.Answer.{Answer}
 use Rattle.lists.specs.Lists.{one}

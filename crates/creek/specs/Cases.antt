@@ -3,8 +3,8 @@
 use Prim.Native.Nat.{ℕ}
 use mathlib.Core.List.{List, [], _∷_, _++_}
 use lib.ListN.{replicate}
-use Rattle.request.specs.Numbers.{numbered}
-use Rattle.request.specs.Sets.{emptySet, join}
+use Rattle.numbers.specs.Numbers.{numbered}
+use Rattle.sets.specs.Sets.{emptySet, join}
 use Rattle.request.specs.Refusal as refused
 use Rattle.creek.specs.Plan.{order}
 use Rattle.creek.specs.Book.{Call, deliver, commit}

@@ -3,12 +3,12 @@ use Prim.Native.Nat.{ℕ}
 use mathlib.Core.Bool.{Bool, true, false}
 use mathlib.Core.List.{List, [], _∷_}
 use lib.ListN.{getD, replicate}
-use Rattle.request.specs.declared.Context.{Context}
+use Rattle.sets.specs.declared.Context.{Context}
 use Rattle.request.specs.declared.Operation.{Operation}
 use Rattle.request.specs.declared.Request.{Request}
-use Rattle.request.specs.Numbers.{numbered}
+use Rattle.numbers.specs.Numbers.{numbered}
 use Rattle.request.specs.Operations.{codeRead, codeSet, codeAdd, codeClaim, codeMove}
-use Rattle.request.specs.Sets.{emptySet}
+use Rattle.sets.specs.Sets.{emptySet}
 use Rattle.registers.specs.Effect.{exec, response}
 use Rattle.creek.specs.declared.Answer.{Answer}
 use Rattle.creek.specs.Book.{Call, invoke}

@@ -2,8 +2,8 @@
 -- and two histories in which demand 3's bound is reached. That what is computed is what is said is proved in `proofs/Cases`.
 use Prim.Native.Nat.{ℕ, zero, suc}
 use mathlib.Core.List.{List, [], _∷_}
-use Rattle.request.specs.Numbers.{numbered}
-use Rattle.request.specs.Sets.{emptySet, join}
+use Rattle.numbers.specs.Numbers.{numbered}
+use Rattle.sets.specs.Sets.{emptySet, join}
 use Rattle.creek.specs.Book.{Call, deliver, commit, undo, execute}
 use Rattle.creek.specs.Replies.{noMark, stableMark}
 use Rattle.creek.specs.Calls.{Replica, fresh, step, answer}

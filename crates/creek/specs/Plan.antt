@@ -7,12 +7,12 @@ use mathlib.Core.Bool.{Bool, not, _||_, cond}
 use mathlib.Core.List.{List, [], _∷_, _++_}
 use mathlib.Core.Option.{Option, none, some}
 use lib.Dec.{leb, ltb, eqb}
-use Rattle.request.specs.declared.Context.{Context}
-use Rattle.request.specs.declared.Number.{Number}
+use Rattle.sets.specs.declared.Context.{Context}
+use Rattle.numbers.specs.declared.Number.{Number}
 use Rattle.request.specs.declared.Request.{Request}
-use Rattle.request.specs.Numbers.{numbered, sameNumber, badNumber, mostEvents}
+use Rattle.numbers.specs.Numbers.{numbered, sameNumber, badNumber, mostEvents}
 use Rattle.request.specs.Operations.{badOperation}
-use Rattle.request.specs.Sets.{emptySet, member, join, leave, subset}
+use Rattle.sets.specs.Sets.{emptySet, member, join, leave, subset}
 use Rattle.request.specs.Order.{before}
 use Rattle.request.specs.Request.{sameRequest, badContext}
 use Rattle.request.specs.Refusal as refused

@@ -4,11 +4,11 @@ use mathlib.Core.Bool.{Bool, false, _&&_, _||_, cond}
 use mathlib.Core.List.{List, [], _∷_}
 use mathlib.Core.Option.{Option, none, some}
 use lib.Dec.{eqb}
-use Rattle.request.specs.declared.Context.{Context}
-use Rattle.request.specs.declared.Number.{Number}
+use Rattle.sets.specs.declared.Context.{Context}
+use Rattle.numbers.specs.declared.Number.{Number}
 use Rattle.request.specs.declared.Request.{Request}
-use Rattle.request.specs.Numbers.{noNumber}
-use Rattle.request.specs.Sets.{emptySet, member, join, leave, lowestLacking}
+use Rattle.numbers.specs.Numbers.{noNumber}
+use Rattle.sets.specs.Sets.{emptySet, member, join, leave, lowestLacking}
 use Rattle.request.specs.Refusal as refused
 use Rattle.registers.specs.Effect.{exec, response}
 use Rattle.registers.specs.Replay.{zeroBoard}

@@ -6,12 +6,12 @@ use mathlib.Core.Bool.{Bool, true, false, not, _&&_, _||_, Bool·beq}
 use mathlib.Core.List.{List, _++_}
 use lib.ListN.{length}
 use lib.Dec.{ltb}
-use Rattle.request.specs.declared.Context.{Context}
-use Rattle.request.specs.declared.Number.{Number}
+use Rattle.sets.specs.declared.Context.{Context}
+use Rattle.numbers.specs.declared.Number.{Number}
 use Rattle.request.specs.declared.Request.{Request}
-use Rattle.request.specs.Numbers.{badNumber, mostPanels, mostEvents}
+use Rattle.numbers.specs.Numbers.{badNumber, mostPanels, mostEvents}
 use Rattle.request.specs.Operations.{badOperation}
-use Rattle.request.specs.Sets.{member, namesFrom}
+use Rattle.sets.specs.Sets.{member, namesFrom}
 use Rattle.request.specs.Order.{before}
 use Rattle.request.specs.Request.{badContext}
 use Rattle.lists.specs.Lists.{count, Ordered}

@@ -6,10 +6,10 @@ use mathlib.Core.Path.{_≡_}
 use mathlib.Core.Bool.{Bool, true, false, not, _&&_}
 use mathlib.Core.List.{List, _∷_}
 use lib.ListN.{length}
-use Rattle.request.specs.declared.Context.{Context}
+use Rattle.sets.specs.declared.Context.{Context}
 use Rattle.request.specs.declared.Request.{Request}
-use Rattle.request.specs.Numbers.{mostPanels}
-use Rattle.request.specs.Sets.{member}
+use Rattle.numbers.specs.Numbers.{mostPanels}
+use Rattle.sets.specs.Sets.{member}
 use Rattle.request.specs.Refusal as refused
 use Rattle.lists.specs.Lists.{count}
 use Rattle.creek.specs.Plan.{isOf, isCommitted}

@@ -2,8 +2,8 @@
 // definitions in `specs/` and by the code. The rest of the crate is definitions, and theorems about them in `proofs/`.
 pub mod mark;
 
-use request::Clock;
-use request::Number;
+use numbers::Clock;
+use numbers::Number;
 use request::Operation;
 use request::Request;
 

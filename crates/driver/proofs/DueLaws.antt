@@ -5,7 +5,7 @@ use mathlib.Core.List.{List}
 use native.Mathlib.Omega.{arith}
 use lib.ListN.{getD}
 use borrow.Author.Tests.{eq-eqb, ne-eqb}
-use Rattle.request.specs.Numbers.{noNumber}
+use Rattle.numbers.specs.Numbers.{noNumber}
 use Rattle.request.specs.Refusal as refused
 use Rattle.creek.specs.Replies.{noMark, noRequest}
 use Rattle.creek.specs.Sound.{mostRequests}

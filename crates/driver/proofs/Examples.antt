@@ -3,10 +3,10 @@ use Prim.Native.Nat.{ℕ}
 use mathlib.Core.Path.{_≡_, refl}
 use mathlib.Core.List.{List, [], _∷_, _++_}
 use lib.ListN.{replicate}
-use Rattle.request.specs.Numbers.{sameNumber, badNumber}
+use Rattle.numbers.specs.Numbers.{sameNumber, badNumber}
 use Rattle.request.specs.Operations.{badOperation}
 use Rattle.request.specs.Order.{before}
-use Rattle.request.specs.Sets.{allZero, isEmpty, bit, member, join, leave}
+use Rattle.sets.specs.Sets.{allZero, isEmpty, bit, member, join, leave}
 use Rattle.registers.specs.Effect.{offBoard, added, claimed, movable, moved, exec, response}
 use Rattle.registers.specs.Replay.{replayOn, replay}
 use Rattle.creek.specs.Book.{refusal, accepted}

@@ -2,7 +2,7 @@
 use mathlib.Core.Path.{_≡_, refl}
 use mathlib.Core.Bool.{Bool, true, false}
 use lib.Dec.{ltb}
-use Rattle.request.specs.Numbers.{badNumber}
+use Rattle.numbers.specs.Numbers.{badNumber}
 use Rattle.creek.specs.Book.{refusal}
 use Rattle.creek.specs.Plan.{deliverRefusal}
 use Rattle.creek.specs.Calls.{Replica, step}

@@ -7,7 +7,7 @@ use lib.ListN.{length, getD, replicate}
 use lib.Seq.{sets}
 use lib.Dec.{eqb, ltb}
 use Rattle.request.specs.declared.Request.{Request}
-use Rattle.request.specs.Numbers.{noNumber}
+use Rattle.numbers.specs.Numbers.{noNumber}
 use Rattle.creek.specs.declared.Invocation.{Invocation}
 use Rattle.creek.specs.declared.Answer.{Answer}
 use Rattle.creek.specs.Book.{Call, invoke, deliver, commit, undo, execute}

@@ -4,8 +4,8 @@
 pub mod answers;
 pub mod calls;
 
+use numbers::PanelNo;
 use replica::State;
-use request::PanelNo;
 ghost use mathlib.Core.Path.{_≡_};
 ghost use Rattle.text.specs.Placed.{Room};
 ghost use Rattle.replica.specs.Model.{Inv, model};

@@ -1,5 +1,5 @@
 // Runs the cases at the edges of document 01 that are not proved, and prints a line for each: the refusal number.
-use request::PanelNo;
+use numbers::PanelNo;
 
 fn main() {
     print(idle_execute());

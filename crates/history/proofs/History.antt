@@ -7,9 +7,9 @@ use mathlib.Core.Bool.{Bool, true, false, cond}
 use mathlib.Core.List.{List, [], _∷_}
 use lib.ListN.{replicate}
 use lib.Dec.{eqb}
-use Rattle.request.specs.declared.Context.{Context}
+use Rattle.sets.specs.declared.Context.{Context}
 use Rattle.request.specs.declared.Request.{Request}
-use Rattle.request.specs.Numbers.{noNumber}
+use Rattle.numbers.specs.Numbers.{noNumber}
 use Rattle.request.specs.Refusal as refused
 use Rattle.registers.specs.Replay.{replay}
 use Rattle.creek.specs.declared.Answer.{Answer}

@@ -4,9 +4,9 @@ use native.Mathlib.Omega.{arith}
 use mathlib.Core.Path.{_≡_, refl, ap, _∙_}
 use mathlib.Core.List.{List, [], _∷_, map}
 use lib.ListN.{getD}
-use Rattle.request.specs.Numbers.{sameNumber}
+use Rattle.numbers.specs.Numbers.{sameNumber}
 use Rattle.request.specs.Operations.{badOperation}
-use Rattle.request.specs.Sets.{bit, member, join, leave}
+use Rattle.sets.specs.Sets.{bit, member, join, leave}
 use Rattle.request.specs.Order.{before}
 use Rattle.request.specs.Refusal as refused
 use Rattle.registers.specs.Effect.{offBoard, exec, response}

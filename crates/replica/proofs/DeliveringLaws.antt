@@ -6,12 +6,12 @@ use mathlib.Core.Bool.{Bool, true, false, cond}
 use mathlib.Core.Option.{Option, none, some}
 use lib.ListN.{getD}
 use Rattle.request.specs.declared.Request.{Request}
-use Rattle.request.specs.Numbers.{mostPanels, GoodNumber, badNumber, slotOf, noNumber}
+use Rattle.numbers.specs.Numbers.{mostPanels, GoodNumber, badNumber, slotOf, noNumber}
 use Rattle.request.specs.Operations.{badOperation}
-use Rattle.request.specs.Sets.{member}
+use Rattle.sets.specs.Sets.{member}
 use Rattle.request.specs.Request.{sameRequest, badContext}
 use Rattle.request.specs.Refusal as refused
-use Rattle.request.proofs.NumberLaws.{good-number, number-of-slot}
+use Rattle.numbers.proofs.NumberLaws.{good-number, number-of-slot}
 use Rattle.creek.specs.declared.Answer.{Answer}
 use Rattle.creek.specs.Plan.{held, isOf, entered, met, heldRefusal, deliverRefusal}
 use Rattle.creek.specs.Book.{deliver, refusal, accepted}

@@ -13,11 +13,11 @@ use lib.Dec.{eqb}
 use borrow.Author.Tests.{eq-eqb, ne-eqb}
 use Rattle.lists.specs.Lists.{one, count, consIf}
 use Rattle.lists.proofs.ListLaws.{one-true, count-append}
-use Rattle.request.specs.declared.Context.{Context}
-use Rattle.request.specs.declared.Number.{Number}
+use Rattle.sets.specs.declared.Context.{Context}
+use Rattle.numbers.specs.declared.Number.{Number}
 use Rattle.request.specs.declared.Request.{Request}
-use Rattle.request.specs.Numbers.{numberOf}
-use Rattle.request.specs.Sets.{member}
+use Rattle.numbers.specs.Numbers.{numberOf}
+use Rattle.sets.specs.Sets.{member}
 use Rattle.registers.specs.declared.Saved.{Saved}
 use Rattle.registers.specs.Effect.{Executed}
 use Rattle.registers.specs.Rollback.{savedOf, restored}

@@ -16,16 +16,16 @@ use Rattle.lists.proofs.ListLaws.{one-false, commonStart-most}
 use Rattle.lists.proofs.AllLaws.{all-weaken, all-take, all-drop, all-insertAt, none-all}
 use Rattle.lists.proofs.MapLaws.{map-take, map-drop, map-insertAt, count-map, leading-map, leading-agree, commonStart-map, map-agree}
 use Rattle.lists.proofs.PlaceLaws.{leading-most, insert-place, take-insertAt, drop-insertAt, count-insertAt}
-use Rattle.request.specs.declared.Clock.{Clock}
-use Rattle.request.specs.declared.Context.{Context}
-use Rattle.request.specs.declared.Number.{Number}
+use Rattle.numbers.specs.declared.Clock.{Clock}
+use Rattle.sets.specs.declared.Context.{Context}
+use Rattle.numbers.specs.declared.Number.{Number}
 use Rattle.request.specs.declared.Request.{Request}
-use Rattle.request.specs.Numbers.{mostPanels, sameNumber, slotOf, numberOf}
-use Rattle.request.specs.Sets.{member, join}
+use Rattle.numbers.specs.Numbers.{mostPanels, sameNumber, slotOf, numberOf}
+use Rattle.sets.specs.Sets.{member, join}
 use Rattle.request.specs.Order.{before}
 use Rattle.request.specs.Request.{sameRequest}
-use Rattle.request.proofs.NumberLaws.{sameNumber-self, sameNumber-sym, slot-fits, number-of-slot}
-use Rattle.request.proofs.SetLaws.{member-join, join-length}
+use Rattle.numbers.proofs.NumberLaws.{sameNumber-self, sameNumber-sym, slot-fits, number-of-slot}
+use Rattle.sets.proofs.SetLaws.{member-join, join-length}
 use Rattle.slots.specs.Slots.{IsSlot, OrderAsks, comesBefore}
 use Rattle.slots.specs.Insertion.{InsertionAsks, Inserted}
 use Rattle.slots.proofs.SlotLaws.{part-of, same-slot, comes-before-order}

@@ -5,13 +5,13 @@ use mathlib.Core.Path.{_≡_, sym, ap, _∙_}
 use mathlib.Core.Bool.{true, false}
 use lib.ListN.{length}
 use Rattle.lists.proofs.ListLaws.{one-zero}
-use Rattle.request.specs.declared.Clock.{Clock}
-use Rattle.request.specs.declared.Context.{Context}
-use Rattle.request.specs.declared.Number.{Number}
+use Rattle.numbers.specs.declared.Clock.{Clock}
+use Rattle.sets.specs.declared.Context.{Context}
+use Rattle.numbers.specs.declared.Number.{Number}
 use Rattle.request.specs.declared.Request.{Request}
-use Rattle.request.specs.Numbers.{mostPanels, GoodNumber}
-use Rattle.request.specs.Sets.{member}
-use Rattle.request.proofs.NumberLaws.{good-number}
+use Rattle.numbers.specs.Numbers.{mostPanels, GoodNumber}
+use Rattle.sets.specs.Sets.{member}
+use Rattle.numbers.proofs.NumberLaws.{good-number}
 use Rattle.creek.specs.Plan.{Plan, order, entered, lastEvent, lastClock}
 use Rattle.creek.specs.Book.{planned}
 use Rattle.creek.specs.Calls.{counted}

@@ -12,14 +12,14 @@ use lib.Seq.{take-suc-set}
 use lib.Dec.{ltb}
 use Rattle.lists.proofs.AllLaws.{all-append}
 use Rattle.lists.proofs.BoolLaws.{both-true}
-use Rattle.request.specs.declared.Context.{Context}
-use Rattle.request.specs.declared.Number.{Number}
+use Rattle.sets.specs.declared.Context.{Context}
+use Rattle.numbers.specs.declared.Number.{Number}
 use Rattle.request.specs.declared.Request.{Request}
-use Rattle.request.specs.Numbers.{mostPanels, numberOf}
-use Rattle.request.specs.Sets.{member, leave}
+use Rattle.numbers.specs.Numbers.{mostPanels, numberOf}
+use Rattle.sets.specs.Sets.{member, leave}
 use Rattle.request.specs.Refusal as refused
-use Rattle.request.proofs.NumberLaws.{sameNumber-self}
-use Rattle.request.proofs.SetLaws.{leave-length, member-leave}
+use Rattle.numbers.proofs.NumberLaws.{sameNumber-self}
+use Rattle.sets.proofs.SetLaws.{leave-length, member-leave}
 use Rattle.registers.specs.declared.Saved.{Saved}
 use Rattle.registers.specs.Effect.{response, Executed}
 use Rattle.registers.specs.Rollback.{savedOf}

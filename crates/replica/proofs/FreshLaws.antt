@@ -9,12 +9,12 @@ use lib.Dec.{leb, ltb}
 use borrow.Author.Tests.{le-leb, lt-ltb, leb-true, ltb-true, not-false}
 use Rattle.lists.specs.Lists.{one}
 use Rattle.lists.proofs.BoolLaws.{both, both-true, neither, neither-true, true-not-false}
-use Rattle.request.specs.declared.Context.{Context}
-use Rattle.request.specs.declared.PanelNo.{PanelNo}
-use Rattle.request.specs.Numbers.{mostPanels, clockReading}
-use Rattle.request.specs.Sets.{emptySet}
+use Rattle.sets.specs.declared.Context.{Context}
+use Rattle.numbers.specs.declared.PanelNo.{PanelNo}
+use Rattle.numbers.specs.Numbers.{mostPanels, clockReading}
+use Rattle.sets.specs.Sets.{emptySet}
 use Rattle.request.specs.Refusal as refused
-use Rattle.request.proofs.SetLaws.{member-empty}
+use Rattle.sets.proofs.SetLaws.{member-empty}
 use Rattle.registers.specs.declared.Saved.{Saved}
 use Rattle.registers.specs.Replay.{zeroBoard}
 use Rattle.registers.proofs.ReplayLaws.{replay-nothing}

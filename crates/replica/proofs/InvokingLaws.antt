@@ -10,16 +10,16 @@ use borrow.Author.Tests.{leb-false, lt-ltb, le-ltb, le-leb, lt-leb}
 use Rattle.lists.specs.Lists.{keep}
 use Rattle.lists.proofs.AllLaws.{all-weaken, all-drop}
 use Rattle.lists.proofs.MapLaws.{map-drop, keep-map, keep-agree}
-use Rattle.request.specs.declared.Context.{Context}
-use Rattle.request.specs.declared.Number.{Number}
+use Rattle.sets.specs.declared.Context.{Context}
+use Rattle.numbers.specs.declared.Number.{Number}
 use Rattle.request.specs.declared.Request.{Request}
-use Rattle.request.specs.Numbers.{eventNo, sameNumber, mostPanels, mostEvents, GoodNumber, slotOf, numberOf, noNumber}
+use Rattle.numbers.specs.Numbers.{eventNo, sameNumber, mostPanels, mostEvents, GoodNumber, slotOf, numberOf, noNumber}
 use Rattle.request.specs.Operations.{badOperation}
-use Rattle.request.specs.Sets.{emptySet, member, join, leave}
+use Rattle.sets.specs.Sets.{emptySet, member, join, leave}
 use Rattle.request.specs.Order.{before}
 use Rattle.request.specs.Refusal as refused
-use Rattle.request.proofs.NumberLaws.{sameNumber-sound}
-use Rattle.request.proofs.SetLaws.{member-join, join-length}
+use Rattle.numbers.proofs.NumberLaws.{sameNumber-sound}
+use Rattle.sets.proofs.SetLaws.{member-join, join-length}
 use Rattle.slots.specs.Slots.{IsSlot, comesBefore, without as withoutSlots}
 use Rattle.slots.proofs.SlotLaws.{comes-before-order}
 use Rattle.creek.specs.declared.Invocation.{Invocation}

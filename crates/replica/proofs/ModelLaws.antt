@@ -9,7 +9,7 @@ use lib.Seq.{take-suc, drop-cons, drop-append-le, drop-length, length-take-le, g
 use Rattle.lists.proofs.AllLaws.{all-at}
 use Rattle.lists.proofs.MapLaws.{map-drop}
 use Rattle.lists.specs.Lists.{count}
-use Rattle.request.specs.declared.Number.{Number}
+use Rattle.numbers.specs.declared.Number.{Number}
 use Rattle.request.specs.declared.Request.{Request}
 use Rattle.slots.specs.Slots.{mostSlots, IsSlot, PartsAsk}
 use Rattle.creek.specs.Plan.{order, hasNumber}

@@ -9,10 +9,10 @@ use borrow.Author.Tests.{eqb-true, lt-ltb}
 use Rattle.lists.specs.Lists.{count, keep}
 use Rattle.lists.proofs.BoolLaws.{both, both-true}
 use Rattle.lists.proofs.ListLaws.{count-implies, count-keep, pigeonhole}
-use Rattle.request.specs.declared.Context.{Context}
+use Rattle.sets.specs.declared.Context.{Context}
 use Rattle.request.specs.declared.Request.{Request}
-use Rattle.request.specs.Numbers.{numbered, mostEvents, GoodNumber}
-use Rattle.request.proofs.NumberLaws.{good-number, sameNumber-of}
+use Rattle.numbers.specs.Numbers.{numbered, mostEvents, GoodNumber}
+use Rattle.numbers.proofs.NumberLaws.{good-number, sameNumber-of}
 use Rattle.creek.specs.Plan.{isOf, hasNumber}
 use Rattle.creek.specs.Sound.{isBad, Held}
 use Rattle.creek.proofs.HeldLaws.{good-request}

@@ -14,12 +14,12 @@ use Rattle.lists.proofs.BoolLaws.{same-test}
 use Rattle.lists.proofs.ListLaws.{one-true, one-false, find-one, none-find}
 use Rattle.lists.proofs.AllLaws.{all-weaken}
 use Rattle.lists.proofs.MapLaws.{count-map, count-agree, find-map, find-agree}
-use Rattle.request.specs.declared.Number.{Number}
+use Rattle.numbers.specs.declared.Number.{Number}
 use Rattle.request.specs.declared.Request.{Request}
-use Rattle.request.specs.Numbers.{sameNumber, mostPanels, GoodNumber, slotOf, numberOf}
-use Rattle.request.specs.Sets.{member}
+use Rattle.numbers.specs.Numbers.{sameNumber, mostPanels, GoodNumber, slotOf, numberOf}
+use Rattle.sets.specs.Sets.{member}
 use Rattle.request.specs.Request.{sameRequest}
-use Rattle.request.proofs.NumberLaws.{sameNumber-self, slot-fits, number-of-slot}
+use Rattle.numbers.proofs.NumberLaws.{sameNumber-self, slot-fits, number-of-slot}
 use Rattle.request.proofs.EqualityLaws.{sameRequest-sound, sameRequest-self}
 use Rattle.slots.specs.Slots.{IsSlot}
 use Rattle.slots.proofs.SlotLaws.{same-slot}

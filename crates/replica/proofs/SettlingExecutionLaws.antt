@@ -9,7 +9,7 @@ use lib.Seq.{take-take, take-at, getD-at, length-take-le}
 use lib.Dec.{eqb, leb}
 use Rattle.request.specs.declared.Request.{Request}
 use Rattle.request.specs.Request.{sameRequest}
-use Rattle.request.proofs.NumberLaws.{sameNumber-self}
+use Rattle.numbers.proofs.NumberLaws.{sameNumber-self}
 use Rattle.request.proofs.EqualityLaws.{sameRequest-sound}
 use Rattle.registers.specs.Effect.{response}
 use Rattle.registers.specs.Replay.{replay}

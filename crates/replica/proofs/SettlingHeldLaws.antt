@@ -4,12 +4,12 @@ use native.Mathlib.Omega.{arith}
 use mathlib.Core.Path.{_≡_, refl, sym, ap, _∙_}
 use mathlib.Core.Bool.{Bool, true, false, not}
 use mathlib.Core.Option.{some}
-use Rattle.request.specs.declared.Context.{Context}
-use Rattle.request.specs.declared.Number.{Number}
+use Rattle.sets.specs.declared.Context.{Context}
+use Rattle.numbers.specs.declared.Number.{Number}
 use Rattle.request.specs.declared.Request.{Request}
-use Rattle.request.specs.Numbers.{badNumber, mostPanels, GoodNumber, slotOf}
-use Rattle.request.specs.Sets.{member}
-use Rattle.request.proofs.NumberLaws.{good-number, sameNumber-sound, number-of-slot, slot-fits}
+use Rattle.numbers.specs.Numbers.{badNumber, mostPanels, GoodNumber, slotOf}
+use Rattle.sets.specs.Sets.{member}
+use Rattle.numbers.proofs.NumberLaws.{good-number, sameNumber-sound, number-of-slot, slot-fits}
 use Rattle.lists.specs.Lists.{find}
 use Rattle.lists.proofs.BoolLaws.{true-not-false, same-test}
 use Rattle.lists.proofs.ListLaws.{count-weaker, passes-count, none-passes-count, found-passes, found-not, find-skip}

@@ -9,12 +9,12 @@ use lib.ListN.{length, getD, length-append}
 use lib.Seq.{slice}
 use lib.Dec.{eqb, leb}
 use borrow.Author.Tests.{eq-eqb, leb-true}
-use Rattle.request.specs.declared.Context.{Context}
-use Rattle.request.specs.declared.Number.{Number}
+use Rattle.sets.specs.declared.Context.{Context}
+use Rattle.numbers.specs.declared.Number.{Number}
 use Rattle.request.specs.declared.Request.{Request}
-use Rattle.request.specs.Numbers.{noNumber}
-use Rattle.request.specs.Sets.{member, join}
-use Rattle.request.proofs.SetLaws.{leave-length, member-leave}
+use Rattle.numbers.specs.Numbers.{noNumber}
+use Rattle.sets.specs.Sets.{member, join}
+use Rattle.sets.proofs.SetLaws.{leave-length, member-leave}
 use Rattle.lists.specs.Lists.{find, commonStart}
 use Rattle.lists.proofs.BoolLaws.{true-not-false, both-true}
 use Rattle.lists.proofs.ListLaws.{count-most}

@@ -2,14 +2,14 @@
 use Prim.Native.Nat.{ℕ, _+_, _≤_}
 use native.Mathlib.Omega.{arith}
 use mathlib.Core.Path.{_≡_, sym, ap, _∙_}
-use mathlib.Core.Bool.{Bool, false, not, _&&_, _||_}
+use mathlib.Core.Bool.{Bool, not}
 use mathlib.Core.List.{List, [], _∷_, _++_, map-append}
 use mathlib.Core.Option.{some}
 use lib.ListN.{take, drop, take-append-drop}
 use lib.Seq.{slice, take-take}
 use lib.Dec.{eqb}
 use Rattle.request.specs.declared.Request.{Request}
-use Rattle.request.proofs.NumberLaws.{sameNumber-self}
+use Rattle.numbers.proofs.NumberLaws.{sameNumber-self}
 use Rattle.lists.specs.Lists.{count, keep, find, commonStart}
 use Rattle.lists.specs.Places.{All}
 use Rattle.lists.proofs.AllLaws.{all-weaken, all-take, all-drop, all-append}

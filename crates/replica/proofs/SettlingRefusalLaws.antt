@@ -6,9 +6,9 @@ use mathlib.Core.Bool.{Bool, true, false, not, cond}
 use mathlib.Core.Option.{some}
 use lib.Dec.{eqb}
 use borrow.Author.Tests.{not-false}
-use Rattle.request.specs.declared.Number.{Number}
-use Rattle.request.specs.Numbers.{noNumber, badNumber, slotOf}
-use Rattle.request.specs.Sets.{member, subset, lowestLacking}
+use Rattle.numbers.specs.declared.Number.{Number}
+use Rattle.numbers.specs.Numbers.{noNumber, badNumber, slotOf}
+use Rattle.sets.specs.Sets.{member, subset, lowestLacking}
 use Rattle.request.specs.Refusal as refused
 use Rattle.lists.specs.Lists.{find}
 use Rattle.creek.specs.declared.Answer.{Answer}

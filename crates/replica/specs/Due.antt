@@ -6,7 +6,7 @@ use mathlib.Core.List.{List, [], _++_}
 use lib.ListN.{length, replicate}
 use lib.Dec.{eqb}
 use Rattle.lists.specs.Lists.{consIf}
-use Rattle.request.specs.Numbers.{noNumber, mostEvents}
+use Rattle.numbers.specs.Numbers.{noNumber, mostEvents}
 use Rattle.creek.specs.declared.Answer.{Answer}
 use Rattle.creek.specs.Execution.{owed, isIdle}
 use Rattle.creek.specs.Book.{Call}

@@ -4,10 +4,10 @@ use mathlib.Core.Path.{_≡_}
 use mathlib.Core.Bool.{cond}
 use mathlib.Core.List.{List}
 use Rattle.lists.specs.Lists.{keep}
-use Rattle.request.specs.declared.Context.{Context}
-use Rattle.request.specs.declared.Number.{Number}
+use Rattle.sets.specs.declared.Context.{Context}
+use Rattle.numbers.specs.declared.Number.{Number}
 use Rattle.request.specs.declared.Request.{Request}
-use Rattle.request.specs.Sets.{emptySet}
+use Rattle.sets.specs.Sets.{emptySet}
 use Rattle.slots.specs.Slots.{comesBefore, without}
 use Rattle.creek.specs.declared.Invocation.{Invocation}
 use Rattle.creek.specs.Plan.{Plan, emptyPlan, lastEvent, lastClock, invokeRefusal, deliverRefusal}

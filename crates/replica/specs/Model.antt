@@ -5,11 +5,11 @@ use mathlib.Core.Bool.{true, false}
 use mathlib.Core.List.{List, [], map}
 use lib.ListN.{length, take, drop, getD}
 use lib.Dec.{eqb}
-use Rattle.request.specs.declared.Number.{Number}
+use Rattle.numbers.specs.declared.Number.{Number}
 use Rattle.request.specs.declared.Operation.{Operation}
 use Rattle.request.specs.declared.Request.{Request}
-use Rattle.request.specs.Numbers.{mostPanels, numberOf, clockReading}
-use Rattle.request.specs.Sets.{member}
+use Rattle.numbers.specs.Numbers.{mostPanels, numberOf, clockReading}
+use Rattle.sets.specs.Sets.{member}
 use Rattle.request.specs.Refusal as refused
 use Rattle.registers.specs.declared.Saved.{Saved}
 use Rattle.registers.specs.Effect.{response}

@@ -1,10 +1,10 @@
 -- How a settlement is refused and answered, by what the state keeps.
 use Prim.Native.Nat.{ℕ}
 use mathlib.Core.Bool.{Bool, not, cond}
-use Rattle.request.specs.declared.Context.{Context}
-use Rattle.request.specs.declared.Number.{Number}
-use Rattle.request.specs.Numbers.{noNumber, badNumber}
-use Rattle.request.specs.Sets.{member, leave, subset, lowestLacking}
+use Rattle.sets.specs.declared.Context.{Context}
+use Rattle.numbers.specs.declared.Number.{Number}
+use Rattle.numbers.specs.Numbers.{noNumber, badNumber}
+use Rattle.sets.specs.Sets.{member, leave, subset, lowestLacking}
 use Rattle.request.specs.Refusal as refused
 use Rattle.creek.specs.declared.Answer.{Answer}
 use Rattle.creek.specs.Plan.{met}

@@ -4,7 +4,6 @@ use super::RegisterValue;
 use super::State;
 use super::no_request;
 use super::with_body;
-use request::numbers;
 use request::operations;
 use request::refusal;
 ghost use mathlib.Core.Path.{_≡_};

@@ -1,18 +1,18 @@
 -- Laws of equality: two operations, contexts or requests that test as the same are equal, and each tests as the same as itself.
 use Prim.Native.Nat.{ℕ}
 use mathlib.Core.Path.{_≡_, refl}
-use mathlib.Core.Bool.{Bool, true, _&&_}
+use mathlib.Core.Bool.{true}
 use lib.Dec.{eqb}
 use borrow.Author.Tests.{eqb-true, eq-eqb}
 use Rattle.request.specs.declared.Operation.{Operation}
-use Rattle.request.specs.declared.Context.{Context}
+use Rattle.sets.specs.declared.Context.{Context}
 use Rattle.request.specs.declared.Request.{Request}
 use Rattle.request.specs.Operations.{sameOperation}
-use Rattle.request.specs.Sets.{setOf, sameContext}
+use Rattle.sets.specs.Sets.{sameContext}
 use Rattle.request.specs.Request.{sameRequest}
 use Rattle.lists.proofs.BoolLaws.{both-true, both, beq-sound, beq-self}
-use Rattle.request.proofs.NumberLaws.{sameNumber-sound, sameNumber-self}
-use Rattle.request.proofs.WordLaws.{sameWords-sound, sameWords-self}
+use Rattle.numbers.proofs.NumberLaws.{sameNumber-sound, sameNumber-self}
+use Rattle.sets.proofs.WordLaws.{sameWords-sound, sameWords-self}
 
 self : (n : ℕ) → eqb n n ≡ true
 self n = eq-eqb n n refl

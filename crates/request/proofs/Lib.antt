@@ -1,9 +1,3 @@
 -- The laws of the definitions in `specs/`, for this crate's proofs and for the crates above it.
-pub mod NumberLaws
-pub mod WordLaws
-pub mod BitLaws
-pub mod SetLaws
-pub mod PanelLaws
-pub mod LowestLaws
 pub mod OrderLaws
 pub mod EqualityLaws

@@ -1,12 +1,8 @@
 -- Clock order.
-use Prim.Native.Nat.{ℕ}
-use mathlib.Core.Bool.{Bool, _&&_, _||_}
-use lib.Dec.{ltb, eqb}
+use mathlib.Core.Bool.{Bool}
+use lib.Dec.{ltb}
+use Rattle.numbers.specs.Lexicographic.{lexicographic}
 use Rattle.request.specs.declared.Request.{Request}
-
--- a is below b, or they are equal and what follows decides
-abbrev pub lexicographic : ℕ → ℕ → Bool → Bool
-lexicographic a b rest = ltb a b || eqb a b && rest
 
 -- x comes before y in clock order: by clock reading, then panel, then event [A1 line 3]
 unfoldable pub before : Request → Request → Bool

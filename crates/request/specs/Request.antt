@@ -3,9 +3,9 @@ use Prim.Native.Nat.{ℕ}
 use mathlib.Core.Bool.{Bool, not, _&&_, _||_, Bool·beq}
 use lib.Dec.{eqb}
 use Rattle.request.specs.declared.Request.{Request}
-use Rattle.request.specs.Numbers.{sameNumber}
+use Rattle.numbers.specs.Numbers.{sameNumber}
 use Rattle.request.specs.Operations.{sameOperation}
-use Rattle.request.specs.Sets.{sameContext, isEmpty, member, namesFrom}
+use Rattle.sets.specs.Sets.{sameContext, isEmpty, member, namesFrom}
 
 -- all fields are equal
 unfoldable pub sameRequest : Request → Request → Bool

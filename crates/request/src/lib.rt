@@ -1,31 +1,17 @@
 // A request and its parts, no field of which is wider than its field in a bus message.
 //
-// Here are the types and what concerns a whole request: equality, and the test behind refusal 21. Numbers and their slots are
-// in `numbers`, operations in `operations`, sets of numbers in `sets`, clock order in `order`, the refusal numbers in `refusal`.
+// Here are the types and what concerns a whole request: equality, and the test behind refusal 21. Operations are in `operations`, clock
+// order in `order`, the refusal numbers in `refusal`; numbers and sets of numbers are crates of their own.
 // Each contract gives the result by the definition of the same name in `specs/`; their laws are in `proofs/`.
-pub mod numbers;
 pub mod operations;
 pub mod order;
 pub mod refusal;
-pub mod sets;
 
+use numbers::Clock;
+use numbers::Number;
+use sets::Context;
 ghost use mathlib.Core.Path.{_≡_};
 ghost use Rattle.request.specs.Request.{sameRequest, badContext};
-
-// A panel of the shop, counted from 0.
-pub struct PanelNo(pub u8);
-
-// An event of a panel, counted from 1: it names a request.
-pub struct EventNo(pub u8);
-
-// A clock reading: it places a request.
-pub struct Clock(pub u32);
-
-// A request's number.
-pub struct Number {
-    pub panel: PanelNo,
-    pub event: EventNo,
-}
 
 // An operation on register r or, under a move, from register r to register q.
 pub struct Operation {
@@ -33,11 +19,6 @@ pub struct Operation {
     pub r: u8,
     pub q: u8,
     pub amount: u32,
-}
-
-// A set of numbers: word p is panel p's, and bit e - 1 of it is event e's.
-pub struct Context {
-    pub words: [u64; 8],
 }
 
 // A request; one that is not strong is weak.

@@ -8,7 +8,7 @@ use native.Mathlib.Numerals.{add-one}
 use native.Mathlib.Omega.{arith}
 use lib.ListN.{length, getD}
 use borrow.Author.Tests.{lt-ltb, le-ltb}
-use Rattle.request.specs.declared.Number.{Number}
+use Rattle.numbers.specs.declared.Number.{Number}
 use Rattle.request.specs.Refusal as refusal
 use Rattle.text.specs.Placed.{Written}
 use Rattle.text.proofs.PlacedLaws.{then, Left, left-start, left-step, left-end, nothing}

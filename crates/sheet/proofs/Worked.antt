@@ -3,12 +3,12 @@ use Prim.Native.Nat.{ℕ}
 use mathlib.Core.Path.{_≡_, refl}
 use mathlib.Core.List.{List, [], _∷_, _++_}
 use Rattle.text.specs.Text.{ascii, significant, decimal, restOfLine, line}
-use Rattle.request.specs.Numbers.{sameNumber, badNumber}
+use Rattle.numbers.specs.Numbers.{sameNumber, badNumber}
 use Rattle.request.specs.Operations.{sameOperation, badOperation}
 use Rattle.request.specs.Order.{before}
 use Rattle.request.specs.Request.{sameRequest, badContext}
-use Rattle.request.specs.Sets.{sameWords, sameContext, allZero, isEmpty, namesFrom, bit, member, join}
-use Rattle.request.specs.Sets.{lackedWords, difference, subset}
+use Rattle.sets.specs.Sets.{sameWords, sameContext, allZero, isEmpty, namesFrom, bit, member, join}
+use Rattle.sets.specs.Sets.{lackedWords, difference, subset}
 use Rattle.registers.specs.Effect.{offBoard, added, claimed, exec}
 use Rattle.registers.specs.Replay.{replayOn, replay}
 use Rattle.creek.specs.Plan.{entered, committing, committingFound, deliverRefusal, commitRefusal}

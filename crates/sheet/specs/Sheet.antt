@@ -4,7 +4,7 @@ use mathlib.Core.Bool.{cond}
 use mathlib.Core.List.{List, [], _∷_, _++_}
 use lib.ListN.{length, getD}
 use lib.Dec.{ltb}
-use Rattle.request.specs.declared.Number.{Number}
+use Rattle.numbers.specs.declared.Number.{Number}
 use Rattle.request.specs.Refusal as refusal
 use Rattle.creek.specs.Execution.{registers, owed}
 use Rattle.creek.specs.Book.{Call, deliver, commit}

@@ -1,8 +1,8 @@
 // The printout of document 01: one definition of the input's bytes, `printout` of `specs/Sheet`, and `print`, which puts it into lent
 // bytes.
+use numbers::PanelNo;
 use replica::Called;
 use replica::State;
-use request::PanelNo;
 use request::refusal;
 use wire::Answer;
 use wire::Message;

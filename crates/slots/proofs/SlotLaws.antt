@@ -16,14 +16,15 @@ use Rattle.lists.proofs.ListLaws.{count-all, count-never, pigeonhole}
 use Rattle.lists.proofs.MapLaws.{count-agree}
 use Rattle.lists.proofs.AllLaws.{all-of, all-weaken, all-drop, all-slice-at}
 use Rattle.lists.proofs.StepLaws.{keep-taken, keep-passed, keep-end}
-use Rattle.request.specs.declared.Context.{Context}
+use Rattle.sets.specs.declared.Context.{Context}
 use Rattle.request.specs.declared.Request.{Request}
-use Rattle.request.specs.Numbers.{sameNumber, mostPanels, mostEvents, GoodNumber, numberOf, slotOf}
-use Rattle.request.specs.Order.{lexicographic, before}
-use Rattle.request.specs.Sets.{member, leave}
-use Rattle.request.proofs.NumberLaws.{sameNumber-sound, sameNumber-self, slot-of-number, number-of-good, number-good}
+use Rattle.numbers.specs.Numbers.{sameNumber, mostPanels, mostEvents, GoodNumber, numberOf, slotOf}
+use Rattle.numbers.specs.Lexicographic.{lexicographic}
+use Rattle.request.specs.Order.{before}
+use Rattle.sets.specs.Sets.{member, leave}
+use Rattle.numbers.proofs.NumberLaws.{sameNumber-sound, sameNumber-self, slot-of-number, number-of-good, number-good}
 use Rattle.request.proofs.OrderLaws.{before-by-slots}
-use Rattle.request.proofs.SetLaws.{member-is-bit}
+use Rattle.sets.proofs.SetLaws.{member-is-bit}
 use Rattle.slots.specs.Slots.{mostSlots, IsSlot, Part, ComparisonAsks, OrderAsks, comesBefore, inWords, without}
 use Rattle.slots.specs.Settlement.{stays}
 

@@ -7,10 +7,10 @@ use lib.ListN.{length, getD}
 use lib.Seq.{slice}
 use lib.Dec.{ltb}
 use Rattle.lists.specs.Places.{All}
-use Rattle.request.specs.declared.Context.{Context}
-use Rattle.request.specs.Numbers.{mostPanels, mostEvents, numberOf}
-use Rattle.request.specs.Order.{lexicographic}
-use Rattle.request.specs.Sets.{bit, leave}
+use Rattle.sets.specs.declared.Context.{Context}
+use Rattle.numbers.specs.Numbers.{mostPanels, mostEvents, numberOf}
+use Rattle.numbers.specs.Lexicographic.{lexicographic}
+use Rattle.sets.specs.Sets.{bit, leave}
 
 -- the most slots, which is also the length of every array by slot and of every array of slots
 abbrev pub mostSlots : ℕ

@@ -1,8 +1,6 @@
 // The known set without the requests that come after another in clock order.
 use super::order;
-use request::Context;
-use request::numbers;
-use request::sets;
+use sets::Context;
 ghost use mathlib.Core.Path.{_≡_};
 ghost use lib.Seq.{slice};
 ghost use Rattle.lists.specs.Lists.{keep};

@@ -5,7 +5,7 @@ ghost use Prim.Native.Nat.{_<_};
 ghost use Rattle.slots.specs.Slots.{mostSlots, inWords};
 ghost use Rattle.slots.specs.Settlement.{onSide, SelectionAsks, Selected, SettlementAsks, Settled};
 
-const EVENTS: u16 = request::numbers::MOST_EVENTS as u16;
+const EVENTS: u16 = numbers::MOST_EVENTS as u16;
 
 // Whether the number of slot t is in the set of these words.
 pub fn in_words(words: &[u64; 8], t: u16) -> bool

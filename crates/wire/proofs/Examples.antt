@@ -4,10 +4,10 @@ use mathlib.Core.Path.{_≡_, refl}
 use mathlib.Core.Bool.{true, false}
 use mathlib.Core.List.{List, [], _∷_, _++_, map}
 use lib.ListN.{replicate}
-use Rattle.request.specs.Numbers.{numbered}
+use Rattle.numbers.specs.Numbers.{numbered}
 use Rattle.request.specs.Operations.{codeSet, codeClaim}
 use Rattle.request.specs.Refusal as refusal
-use Rattle.request.specs.Sets.{emptySet, setOf}
+use Rattle.sets.specs.Sets.{emptySet, setOf}
 use Rattle.wire.specs.declared.Kind.the-variants.{Weak, Strong, Settlement}
 use Rattle.wire.specs.Integers.{integerAt, integerBytes}
 use Rattle.wire.specs.Layout.{layout, size, sizeOf, decode, encode, fieldsAt}

@@ -7,7 +7,7 @@ use lib.Dec.{lit<}
 use lib.ListN.{length}
 use lib.Seq.{sets}
 use borrow.Author.Tests.{lt-ltb, le-ltb, eq-eqb, ne-eqb}
-use Rattle.request.specs.Numbers.{mostPanels}
+use Rattle.numbers.specs.Numbers.{mostPanels}
 use Rattle.request.specs.Refusal as refusal
 use Rattle.wire.specs.declared.Message.{Message}
 use Rattle.wire.specs.declared.Answer.the-variants.{Message as aMessage, End, Refused}

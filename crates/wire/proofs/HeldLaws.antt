@@ -11,8 +11,8 @@ use denote.Array.{each}
 use denote.Builtin.{u64}
 use denote.Shadow.{shadow}
 use Rattle.request.specs.declared.Request.{Request}
-use Rattle.request.specs.Numbers.{mostPanels, mostEvents}
-use Rattle.request.specs.Sets.{Words}
+use Rattle.numbers.specs.Numbers.{mostPanels, mostEvents}
+use Rattle.sets.specs.Sets.{Words}
 use Rattle.wire.specs.declared.Message.{Message}
 use Rattle.wire.specs.declared.Kind.{Kind}
 use Rattle.wire.specs.declared.Kind.the-variants.{Weak, Strong}

@@ -9,7 +9,7 @@ use native.Mathlib.Omega.{arith}
 use lib.Dec.{lit<}
 use lib.ListN.{getD, set, take, drop, length, replicate, length-append}
 use lib.Seq.{sets, drop-cons, take-add, drop-drop}
-use Rattle.request.specs.Numbers.{mostPanels}
+use Rattle.numbers.specs.Numbers.{mostPanels}
 use Rattle.wire.specs.Integers.{integerAt, integerBytes}
 use Rattle.wire.specs.Layout.{wordWidth, size, decode, encode, Within}
 use Rattle.wire.proofs.IntegerLaws.{length-integerBytes, integer-back, Bytes, bytes-back, integer-within}

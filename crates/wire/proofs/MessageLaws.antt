@@ -6,9 +6,9 @@ use mathlib.Core.List.{List, [], _∷_, _++_}
 use lib.Dec.{lit<, lit≤}
 use lib.ListN.{length, replicate}
 use borrow.Author.Tests.{eqb-true, not-false}
-use Rattle.request.specs.declared.Context.{Context}
+use Rattle.sets.specs.declared.Context.{Context}
 use Rattle.request.specs.declared.Request.{Request}
-use Rattle.request.specs.Sets.{emptySet, setOf, Words, isEmpty, allZero}
+use Rattle.sets.specs.Sets.{emptySet, setOf, Words, isEmpty, allZero}
 use Rattle.lists.proofs.BoolLaws.{both-true}
 use Rattle.wire.specs.declared.Kind.{Kind}
 use Rattle.wire.specs.declared.Kind.the-variants.{Weak, Strong, Settlement}

@@ -14,8 +14,8 @@ use native.Mathlib.Decide.{decLe, decLt, ℕ-discrete}
 use lib.Dec.{lit<}
 use lib.ListN.{length, getD, take, drop, replicate, length-append}
 use Rattle.request.specs.Refusal as refusal
-use Rattle.request.specs.Numbers.{mostPanels, mostEvents}
-use Rattle.request.specs.Sets.{isEmpty, allZero}
+use Rattle.numbers.specs.Numbers.{mostPanels, mostEvents}
+use Rattle.sets.specs.Sets.{isEmpty, allZero}
 use borrow.Author.Tests.{eq-eqb}
 use Rattle.wire.specs.declared.Written.{Written}
 use Rattle.wire.specs.declared.Kind.{Kind}

@@ -7,7 +7,7 @@ use lib.ListN.{length, getD, drop}
 use lib.Seq.{sets}
 use lib.Dec.{ltb, eqb}
 use Rattle.request.specs.Refusal as refusal
-use Rattle.request.specs.Sets.{setOf}
+use Rattle.sets.specs.Sets.{setOf}
 use Rattle.wire.specs.declared.Message.{Message}
 use Rattle.wire.specs.declared.Answer.{Answer}
 use Rattle.wire.specs.declared.Answer.the-variants.{Message as aMessage, End, Refused}

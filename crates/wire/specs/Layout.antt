@@ -3,7 +3,7 @@
 use Prim.Native.Nat.{ℕ, suc, _+_, _^_, _<_}
 use mathlib.Core.List.{List, [], _∷_, _++_}
 use lib.ListN.{replicate}
-use Rattle.request.specs.Numbers.{mostPanels}
+use Rattle.numbers.specs.Numbers.{mostPanels}
 use Rattle.wire.specs.Integers.{integerAt, integerBytes}
 use Rattle.wire.specs.declared.Kind.{Kind}
 use Rattle.wire.specs.declared.Kind.the-variants.{Weak, Strong, Settlement}

@@ -3,11 +3,11 @@ use Prim.Native.Nat.{ℕ}
 use mathlib.Core.Bool.{Bool, true, false, not, _&&_, cond}
 use mathlib.Core.List.{List, [], _∷_, _++_}
 use lib.ListN.{getD, drop}
-use Rattle.request.specs.declared.Number.{Number}
-use Rattle.request.specs.declared.Context.{Context}
+use Rattle.numbers.specs.declared.Number.{Number}
+use Rattle.sets.specs.declared.Context.{Context}
 use Rattle.request.specs.declared.Request.{Request}
-use Rattle.request.specs.Numbers.{numbered, noNumber}
-use Rattle.request.specs.Sets.{emptySet, setOf, isEmpty, Words}
+use Rattle.numbers.specs.Numbers.{numbered, noNumber}
+use Rattle.sets.specs.Sets.{emptySet, setOf, isEmpty, Words}
 use Rattle.wire.specs.declared.Message.{Message}
 use Rattle.wire.specs.declared.Kind.{Kind}
 use Rattle.wire.specs.declared.Kind.the-variants.{Weak, Strong, Settlement}

@@ -1,13 +1,12 @@
 // Messages as the code holds them: made of a request or of the number to settle, and their kind.
 use super::Kind;
 use super::Message;
-use request::Clock;
-use request::EventNo;
-use request::Number;
+use numbers::Clock;
+use numbers::EventNo;
+use numbers::Number;
+use numbers::PanelNo;
 use request::Operation;
-use request::PanelNo;
 use request::Request;
-use request::sets;
 ghost use mathlib.Core.Path.{_≡_};
 ghost use Rattle.wire.specs.Message.{request as requestMessage, settlement, kindOf, bare, held, noMessage, said};
 

@@ -3,9 +3,9 @@ use native.Mathlib.Omega.{arith}
 use mathlib.Core.Path.{_≡_, sym, _∙_}
 use mathlib.Core.Bool.{false}
 use borrow.Author.Needs.{needs}
-use Rattle.request.specs.Sets.{member}
+use Rattle.sets.specs.Sets.{member}
 use Rattle.request.specs.Refusal as refused
-use Rattle.request.proofs.NumberLaws.{slot-fits}
+use Rattle.numbers.proofs.NumberLaws.{slot-fits}
 use Rattle.slots.specs.Slots.{IsSlot}
 use Rattle.replica.specs.Entering.{judged}
 use Rattle.replica.proofs.ModelLaws.{executed-asks}

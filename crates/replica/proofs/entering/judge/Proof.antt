@@ -3,7 +3,7 @@ use mathlib.Core.Path.{_≡_, sym, _∙_}
 use mathlib.Core.Bool.{false}
 use borrow.Author.Needs.{needs}
 use borrow.Author.Tests.{eq-eqb, ne-eqb}
-use Rattle.request.specs.Numbers.{badNumber}
+use Rattle.numbers.specs.Numbers.{badNumber}
 use Rattle.creek.specs.Plan.{deliverRefusal}
 use Rattle.replica.specs.Entering.{judged}
 use Rattle.replica.proofs.entering.judge.Statement.{statement}

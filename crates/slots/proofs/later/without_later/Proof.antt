@@ -8,7 +8,7 @@ use mathlib.Core.Bool.{Bool}
 use lib.ListN.{length}
 use lib.Seq.{slice}
 use Rattle.lists.specs.Lists.{keep}
-use Rattle.request.specs.Sets.{leave}
+use Rattle.sets.specs.Sets.{leave}
 use Rattle.slots.specs.Slots.{comesBefore, without}
 use Rattle.slots.proofs.SlotLaws.{comparison-asked, without-taken, without-passed, without-end}
 use Rattle.slots.proofs.later.without_later.Statement.{statement}

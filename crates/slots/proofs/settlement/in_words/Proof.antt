@@ -1,7 +1,7 @@
 -- `settlement::in_words` meets its contract.
 use borrow.Author.Needs.{needs}
 use mathlib.Core.Path.{refl}
-use Rattle.request.specs.Sets.{bit}
+use Rattle.sets.specs.Sets.{bit}
 use Rattle.slots.specs.Slots.{inWords}
 use Rattle.slots.proofs.settlement.in_words.Statement.{statement}
 use Rattle.slots.proofs.settlement.in_words.Tie as tie

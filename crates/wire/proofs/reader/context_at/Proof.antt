@@ -4,8 +4,8 @@ use mathlib.Core.Path.{_≡_, refl, ap, _∙_}
 use native.Mathlib.Omega.{arith}
 use lib.ListN.{length, length-set}
 use lib.Seq.{sets}
-use Rattle.request.specs.Numbers.{mostPanels}
-use Rattle.request.specs.Sets.{setOf}
+use Rattle.numbers.specs.Numbers.{mostPanels}
+use Rattle.sets.specs.Sets.{setOf}
 use Rattle.wire.specs.declared.Kind.the-variants.{Weak}
 use Rattle.wire.specs.Layout.{wordWidth, contextWidths, layout, size, sizeOf, decode}
 use Rattle.wire.proofs.LayoutLaws.{wordsFrom, word-read}

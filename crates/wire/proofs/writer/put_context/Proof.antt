@@ -6,7 +6,7 @@ use native.Mathlib.Omega.{arith}
 use borrow.Author.Needs.{needs}
 use lib.ListN.{length, drop}
 use lib.Seq.{sets}
-use Rattle.request.specs.Numbers.{mostPanels}
+use Rattle.numbers.specs.Numbers.{mostPanels}
 use Rattle.wire.specs.declared.Kind.the-variants.{Weak}
 use Rattle.wire.specs.Layout.{wordWidth, contextWidths, layout, size, sizeOf, encode}
 use Rattle.wire.proofs.LayoutLaws.{wordsFrom, word-put}

@@ -1,0 +1,166 @@
+// Sets of numbers as eight words, each function working by words. No set holds a number with a panel over 7 or an event outside 1 to 64:
+// asked for one, `member` says no, and `join` and `leave` return the set as it was.
+//
+// Each contract gives the result by the definition of the same name in `specs/`; their laws are in `proofs/`.
+use numbers::EventNo;
+use numbers::Number;
+use numbers::PanelNo;
+ghost use mathlib.Core.Path.{_≡_};
+ghost use Rattle.numbers.specs.Numbers.{mostPanels, GoodNumber};
+ghost use Rattle.sets.specs.Sets.{sameContext, emptySet, isEmpty, namesFrom, member as memberOf, maskOf, join as joined};
+ghost use Rattle.sets.specs.Sets.{leave as left, difference as differenceOf, subset, lowest as lowestOf, lowestLacking};
+
+// A set of numbers: word p is panel p's, and bit e - 1 of it is event e's.
+pub struct Context {
+    pub words: [u64; 8],
+}
+
+// A word for each panel.
+const WORDS: usize = numbers::MOST_PANELS as usize;
+
+// The set with no number.
+pub fn empty() -> Context
+    ensures { λ r. ⌜ r ≡ emptySet ⌝ }
+{
+    Context { words: [0u64; 8] }
+}
+
+// Whether a and b have the same words.
+pub fn same(a: Context, b: Context) -> bool
+    ensures { λ r. ⌜ r ≡ sameContext a b ⌝ }
+{
+    let mut i = 0;
+    while i < WORDS {
+        if a.words[i] != b.words[i] {
+            return false;
+        }
+        i += 1;
+    }
+    true
+}
+
+// Whether s holds a number of a panel not below `panels`.
+pub fn names_from(s: Context, panels: u8) -> bool
+    ensures { λ r. ⌜ r ≡ namesFrom panels s ⌝ }
+{
+    let mut i = panels as usize;
+    while i < WORDS {
+        if s.words[i] != 0 {
+            return true;
+        }
+        i += 1;
+    }
+    false
+}
+
+// Whether s holds no number.
+pub fn is_empty(s: Context) -> bool
+    ensures { λ r. ⌜ r ≡ isEmpty s ⌝ }
+{
+    !names_from(s, 0)
+}
+
+// Whether n is in s.
+pub fn member(s: Context, n: Number) -> bool
+    ensures { λ r. ⌜ r ≡ memberOf s n ⌝ }
+{
+    if numbers::bad(numbers::MOST_PANELS, n) {
+        return false;
+    }
+    let panel = n.panel.0 as usize;
+    let bit = (n.event.0 - 1) as u64;
+    let word = s.words[panel];
+    (word >> bit) % 2 == 1
+}
+
+// The word in which only n's bit is set.
+fn mask(n: Number) -> u64
+    requires { ⌜ GoodNumber mostPanels n ⌝ }
+    ensures { λ r. ⌜ r ≡ maskOf n ⌝ }
+{
+    let bit = (n.event.0 - 1) as u64;
+    1u64 << bit
+}
+
+// s with n.
+pub fn join(s: Context, n: Number) -> Context
+    ensures { λ r. ⌜ r ≡ joined s n ⌝ }
+{
+    if numbers::bad(numbers::MOST_PANELS, n) {
+        return s;
+    }
+    let mask = mask(n);
+    let panel = n.panel.0 as usize;
+    let mut t = s;
+    let word = t.words[panel];
+    t.words[panel] = word | mask;
+    t
+}
+
+// s without n.
+pub fn leave(s: Context, n: Number) -> Context
+    ensures { λ r. ⌜ r ≡ left s n ⌝ }
+{
+    if !member(s, n) {
+        return s;
+    }
+    let mask = mask(n);
+    let panel = n.panel.0 as usize;
+    let mut t = s;
+    let word = t.words[panel];
+    t.words[panel] = word ^ mask;
+    t
+}
+
+// The numbers that s has and t lacks.
+pub fn difference(s: Context, t: Context) -> Context
+    ensures { λ r. ⌜ r ≡ differenceOf s t ⌝ }
+{
+    let mut d = s;
+    let mut i = 0;
+    while i < WORDS {
+        let word = d.words[i];
+        d.words[i] = word - (word & t.words[i]);
+        i += 1;
+    }
+    d
+}
+
+// Whether every number of s is in t.
+pub fn is_subset(s: Context, t: Context) -> bool
+    ensures { λ r. ⌜ r ≡ subset s t ⌝ }
+{
+    let d = difference(s, t);
+    is_empty(d)
+}
+
+// The lowest number of s, lowest panel and then lowest event; 0/0 where s is empty.
+pub fn lowest(s: Context) -> Number
+    ensures { λ r. ⌜ r ≡ lowestOf s ⌝ }
+{
+    let mut panel: u8 = 0;
+    while panel < numbers::MOST_PANELS {
+        let word = s.words[panel as usize];
+        if word != 0 {
+            let bit = u64::trailing_zeros(word) as u8;
+            let event = bit + 1;
+            return Number {
+                panel: PanelNo(panel),
+                event: EventNo(event),
+            };
+        }
+        panel += 1;
+    }
+    Number {
+        panel: PanelNo(0),
+        event: EventNo(0),
+    }
+}
+
+// The lowest number that s has and t lacks; 0/0 where there is none.
+pub fn lowest_lacking(s: Context, t: Context) -> Number
+    ensures { λ r. ⌜ r ≡ lowestLacking s t ⌝ }
+{
+    let d = difference(s, t);
+    lowest(d)
+}
