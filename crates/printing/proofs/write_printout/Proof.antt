@@ -1,4 +1,4 @@
--- `write_printout` meets its contract: the page has room for the printout.
+-- `write_printout` meets its contract: the page has room for the printout, and what is put there is all of it.
 use mathlib.Core.Path.{sym}
 use native.Mathlib.Omega.{arith}
 use lib.Seq.{length-take-le}
@@ -30,7 +30,9 @@ write-all-requires : tie.Need-write-all-requires
 write-all-requires c κs = search needs
 
 returns : tie.Need-returns
-returns c = search needs
+returns c =
+    let put = c .before .before .before in
+    omega (arith, put .print .ensures .whole (omega (arith, put .before .before .page .ensures)) .written .place)
 
 pub write-printout-spec : {M : Type 1} → statement M
 write-printout-spec =
