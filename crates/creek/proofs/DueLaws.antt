@@ -1,9 +1,9 @@
 -- Only due steps: each is accepted while something is owed and leaves the plan as it was, and after as many as are owed nothing is.
 use Prim.Native.Nat.{ℕ, zero, suc, _+_, _≤_, _<_}
 use native.Mathlib.Omega.{arith}
-use mathlib.Core.Path.{_≡_, refl, ap, _∙_}
+use mathlib.Core.Path.{_≡_, refl, sym, ap, _∙_}
 use mathlib.Core.Bool.{Bool, true, false, cond}
-use mathlib.Core.List.{List, _++_}
+use mathlib.Core.List.{List, _∷_, _++_}
 use lib.ListN.{length}
 use lib.Dec.{eqb}
 use borrow.Author.Tests.{eqb-true, eqb-false, eq-eqb}
@@ -13,11 +13,12 @@ use Rattle.registers.specs.Replay.{replay}
 use Rattle.lists.specs.Lists.{isNil}
 use Rattle.creek.specs.Plan.{order}
 use Rattle.creek.specs.Execution.{Execution, operations, registers, isIdle}
-use Rattle.creek.specs.Book.{Call, undo, execute, refusal, isAccepted, accepted}
+use Rattle.creek.specs.Book.{Call, undo, execute, Book, refusal, isAccepted, accepted}
 use Rattle.creek.specs.Calls.{Replica, accept, step}
-use Rattle.creek.specs.History.{due, settleDown}
+use Rattle.creek.specs.History.{run, due, settleDown, dueCalls}
 use Rattle.creek.specs.Showing.{undosShown, owedShown}
 use Rattle.creek.specs.Sound.{Sound}
+use Rattle.creek.proofs.CallLaws.{step-book}
 use Rattle.creek.proofs.ExecutionLaws.{undone-todo, undone-rollback, executed-rollback, executes, undo-due}
 use Rattle.creek.proofs.ExecutionLaws.{execute-due, idle-owed, busy-owed, idle-board}
 use Rattle.creek.proofs.SoundLaws.{step-sound}
@@ -114,3 +115,16 @@ unfolding settleDown
 later-undos zero r = omega arith
 later-undos (suc k) r =
     omega (arith, step-undos r (due (r .book .execution)), later-undos k (step r (due (r .book .execution))))
+
+-- ---- so many due steps as a list of calls
+
+pub due-calls : (k : ℕ) (r : Replica)
+    → dueCalls (suc k) (r .book) ≡ due (r .book .execution) ∷ dueCalls k (step r (due (r .book .execution)) .book)
+unfolding dueCalls
+due-calls k r =
+    ap (λ (b : Book). due (r .book .execution) ∷ dueCalls k b) (sym (step-book r (due (r .book .execution))))
+
+pub run-due : (k : ℕ) (r : Replica) → run r (dueCalls k (r .book)) ≡ settleDown k r
+unfolding run dueCalls settleDown
+run-due zero r = refl
+run-due (suc k) r = ap (run r) (due-calls k r) ∙ run-due k (step r (due (r .book .execution)))

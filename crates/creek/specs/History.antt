@@ -25,3 +25,8 @@ due e = cond (isNil (e .rollback)) execute undo
 unfoldable pub settleDown : ℕ → Replica → Replica
 settleDown zero r = r
 settleDown (suc k) r = settleDown k (step r (due (r .book .execution)))
+
+-- so many calls, each the step that is due then
+unfoldable pub dueCalls : ℕ → Book → List Call
+dueCalls zero b = []
+dueCalls (suc k) b = due (b .execution) ∷ dueCalls k (noted b (due (b .execution)))

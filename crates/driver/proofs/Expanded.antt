@@ -1,22 +1,16 @@
 -- The replica after the entries is the replica after the calls that they stand for.
-use Prim.Native.Nat.{ℕ, zero, suc}
 use mathlib.Core.Path.{_≡_, refl, _∙_}
 use mathlib.Core.List.{List, [], _∷_, _++_}
 use Rattle.creek.specs.Book.{Call}
 use Rattle.creek.specs.Calls.{Replica, step}
-use Rattle.creek.specs.History.{run, due, settleDown}
-use Rattle.driver.specs.Encoding.{Entry, one, allDue, owedBy, after, runEntries, dueCalls, callsIn, callsOf}
+use Rattle.creek.specs.History.{run}
+use Rattle.creek.proofs.DueLaws.{run-due}
+use Rattle.driver.specs.Encoding.{Entry, one, allDue, owedBy, after, runEntries, callsIn, callsOf}
 
 run-append : (r : Replica) (cs ds : List Call) → run r (cs ++ ds) ≡ run (run r cs) ds
 unfolding run
 run-append r [] ds = refl
 run-append r (c ∷ cs) ds = run-append (step r c) cs ds
-
--- so many due steps are a run of as many due calls
-run-due : (k : ℕ) (r : Replica) → run r (dueCalls k r) ≡ settleDown k r
-unfolding run dueCalls settleDown
-run-due zero r = refl
-run-due (suc k) r = run-due k (step r (due (r .book .execution)))
 
 run-entry : (r : Replica) (x : Entry) → run r (callsIn r x) ≡ after r x
 unfolding callsIn after run

@@ -14,7 +14,7 @@ use Rattle.creek.specs.Book.{Call, invoke, deliver, commit, undo, execute}
 use Rattle.creek.specs.Execution.{owed}
 use Rattle.creek.specs.Replies.{noMark, reply}
 use Rattle.creek.specs.Calls.{Replica, fresh, freshRefusal, step, answer}
-use Rattle.creek.specs.History.{run, due, settleDown}
+use Rattle.creek.specs.History.{run, settleDown, dueCalls}
 use Rattle.replica.specs.declared.State.{State}
 use Rattle.replica.specs.declared.Called.{Called}
 use Rattle.replica.specs.Model.{Inv, model}
@@ -134,15 +134,10 @@ pub record Done (p : State) (x : Entry) (r : Called) : Type 0 where
 
 -- ---- the calls that entries stand for
 
--- so many due steps
-unfoldable pub dueCalls : ℕ → Replica → List Call
-dueCalls zero r = []
-dueCalls (suc k) r = due (r .book .execution) ∷ dueCalls k (step r (due (r .book .execution)))
-
 -- the calls of an entry
 unfoldable pub callsIn : Replica → Entry → List Call
 callsIn r (one c) = c ∷ []
-callsIn r allDue = dueCalls (owedBy r) r
+callsIn r allDue = dueCalls (owedBy r) (r .book)
 
 -- the calls of all entries
 unfoldable pub callsOf : Replica → List Entry → List Call

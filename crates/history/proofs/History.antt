@@ -19,7 +19,8 @@ use Rattle.creek.specs.Book.{Call, invoke, deliver, commit, undo, execute, Book
 use Rattle.creek.specs.Replies.{stableMark, reply, done, responseIn, stableReplyDue}
 use Rattle.creek.specs.Replies.{settlementReply, undoReply, executionReply, acceptedAnswer}
 use Rattle.creek.specs.Calls.{Replica, fresh, step, answer}
-use Rattle.creek.specs.History.{run, due, settleDown}
+use Rattle.creek.specs.History.{run, due, settleDown, dueCalls}
+use Rattle.creek.proofs.DueLaws.{due-calls, run-due}
 use Rattle.creek.specs.Showing.{owedShown}
 use Rattle.creek.specs.Demand.{Demand3}
 use Rattle.creek.proofs.CallLaws.{by-outcome, step-book, run-book}
@@ -28,7 +29,7 @@ use Rattle.replica.specs.declared.State.{State}
 use Rattle.replica.specs.declared.Opened.{Opened}
 use Rattle.replica.specs.Model.{model, Inv, Fresh}
 use Rattle.replica.proofs.ExecuteLaws.{registers-are}
-use Rattle.history.specs.History.{Leads, stay, call, refusalsIn, openedBook, refusals, dueCalls, answersTo}
+use Rattle.history.specs.History.{Leads, stay, call, refusalsIn, openedBook, refusals, answersTo}
 use Rattle.history.specs.History.{DueStepsDone, PanelDemand3}
 
 -- ---- from one call to a list of calls
@@ -98,15 +99,6 @@ answers-refusals r (c ∷ cs) =
 -- the step that is due
 abbrev dueOn : Replica → Call
 dueOn r = due (r .book .execution)
-
-due-calls : (k : ℕ) (r : Replica) → dueCalls (suc k) (r .book) ≡ dueOn r ∷ dueCalls k (step r (dueOn r) .book)
-unfolding dueCalls
-due-calls k r = ap (λ (b : Book). dueOn r ∷ dueCalls k b) (sym (step-book r (dueOn r)))
-
-run-due : (k : ℕ) (r : Replica) → run r (dueCalls k (r .book)) ≡ settleDown k r
-unfolding run dueCalls settleDown
-run-due zero r = refl
-run-due (suc k) r = ap (run r) (due-calls k r) ∙ run-due k (step r (dueOn r))
 
 -- the answers of due steps that are all accepted
 due-answers : (k : ℕ) (r : Replica) → ((j : ℕ) → j < k → refusal (settleDown j r .book) (dueOn (settleDown j r)) ≡ refused.accepted)

@@ -16,7 +16,7 @@ use Rattle.creek.specs.declared.Answer.{Answer}
 use Rattle.creek.specs.Execution.{board, operations, owed, isIdle}
 use Rattle.creek.specs.Book.{Call, Book, refusal, noted, notedAll}
 use Rattle.creek.specs.Calls.{Replica, fresh, step, answer, bringsRequest, isCommit, isUndo, isExecute}
-use Rattle.creek.specs.History.{acceptedIn, due}
+use Rattle.creek.specs.History.{acceptedIn, dueCalls}
 use Rattle.creek.specs.Showing.{requestsShown, commitsShown, undosShown, executionsShown, owedShown}
 use Rattle.creek.specs.Demand.{mostUndos}
 use Rattle.replica.specs.declared.State.{State}
@@ -46,11 +46,6 @@ openedBook panels own = fresh panels own .book
 unfoldable pub refusals : Book → List Call → List ℕ
 refusals b [] = []
 refusals b (c ∷ cs) = refusal b c ∷ refusals (noted b c) cs
-
--- so many calls, each the step that is due then
-unfoldable pub dueCalls : ℕ → Book → List Call
-dueCalls zero b = []
-dueCalls (suc k) b = due (b .execution) ∷ dueCalls k (noted b (due (b .execution)))
 
 -- what each call answers; this takes the requests that await a reply, which the book does not have
 unfoldable pub answersTo : Replica → List Call → List Answer
