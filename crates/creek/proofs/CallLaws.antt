@@ -1,12 +1,18 @@
--- A call is accepted, with its answer and its effect, or refused, with its number and no effect; and the book depends on the calls alone.
-use mathlib.Core.Path.{_≡_, refl, ap, _∙_}
+-- A call is accepted, with its answer and its effect, or refused, with its number and no effect; it answers with the book's refusal
+-- number; and the book depends on the calls alone.
+use mathlib.Core.Path.{_≡_, refl, sym, ap, _∙_}
 use mathlib.Core.Bool.{Bool, true, false, cond}
 use mathlib.Core.List.{List, [], _∷_}
 use borrow.Author.Tests.{eqb-true}
+use Rattle.lists.proofs.BoolLaws.{either}
+use Rattle.sets.specs.declared.Context.{Context}
+use Rattle.numbers.specs.declared.Number.{Number}
+use Rattle.request.specs.declared.Request.{Request}
 use Rattle.request.specs.Refusal as refused
 use Rattle.creek.specs.declared.Answer.{Answer}
-use Rattle.creek.specs.Book.{Call, Book, refusal, isAccepted, accepted, noted, notedAll}
-use Rattle.creek.specs.Replies.{refusedWith, acceptedAnswer, namedByRefusal, answerOf}
+use Rattle.creek.specs.Book.{Call, invoke, deliver, commit, undo, execute, Book, refusal, isAccepted, accepted, noted, notedAll}
+use Rattle.creek.specs.Replies.{refusedWith, stableReplyDue, settlementReply, undoReply}
+use Rattle.creek.specs.Replies.{executionReply, acceptedAnswer, namedByRefusal, answerOf}
 use Rattle.creek.specs.Calls.{Replica, accept, step, answer}
 use Rattle.creek.specs.History.{run}
 
@@ -24,6 +30,36 @@ by-outcome P r c taken left = go (isAccepted (r .book) c) refl
     go : (v : Bool) → isAccepted (r .book) c ≡ v → P v (answered v) (cond v (accept r c) r)
     go true e = taken (eqb-true _ _ e)
     go false e = left
+
+-- ---- the refusal number of an answer
+
+-- a settlement that is accepted answers 0, with a stable reply or without
+settlement-refusal : (after : Book) (awaiting : Context) (n : Number) → settlementReply after awaiting n .refusal ≡ refused.accepted
+unfolding settlementReply
+settlement-refusal after awaiting n =
+    either (λ (a : Answer). a .refusal ≡ refused.accepted) (stableReplyDue after awaiting n) (λ due. refl) (λ none. refl)
+
+-- an accepted call answers 0
+accepted-refusal : (b : Book) (awaiting : Context) (c : Call) → acceptedAnswer b awaiting c .refusal ≡ refused.accepted
+unfolding acceptedAnswer undoReply executionReply
+accepted-refusal b awaiting (invoke i) = refl
+accepted-refusal b awaiting (deliver x) = refl
+accepted-refusal b awaiting (commit n) = settlement-refusal _ awaiting n
+accepted-refusal b awaiting undo = go (b .execution .rollback)
+  where
+    go : (l : List Request) → undoReply l .refusal ≡ refused.accepted
+    go [] = refl
+    go (x ∷ xs) = refl
+accepted-refusal b awaiting execute = go (b .execution .todo)
+  where
+    go : (l : List Request) → executionReply b awaiting l .refusal ≡ refused.accepted
+    go [] = refl
+    go (x ∷ xs) = refl
+
+-- a call answers with the book's refusal number
+pub answer-refusal : (r : Replica) (c : Call) → answer r c .refusal ≡ refusal (r .book) c
+answer-refusal r c =
+    by-outcome (λ v a q. a .refusal ≡ refusal (r .book) c) r c (λ taken. accepted-refusal (r .book) (r .awaiting) c ∙ sym taken) refl
 
 -- ---- the book
 

@@ -1,4 +1,4 @@
--- The ● cases, the faults that a panel could hide, and that the bound is reached: by computation.
+-- The ● cases, the readings of document 02, the faults that a panel could hide, and that the bound is reached: by computation.
 use mathlib.Core.Path.{_≡_, refl}
 use mathlib.Core.List.{map}
 use Rattle.numbers.specs.Numbers.{sameNumber, badNumber}
@@ -9,7 +9,7 @@ use Rattle.request.specs.Order.{before}
 use Rattle.request.specs.Request.{sameRequest, badContext}
 use Rattle.registers.specs.Effect.{offBoard, added, claimed, movable, moved, exec, response}
 use Rattle.registers.specs.Replay.{replayOn, replay}
-use Rattle.creek.specs.Plan.{lastEvent, lastClock, entered, without, made, committing, committingFound}
+use Rattle.creek.specs.Plan.{lastEvent, lastClock, entered, without, atLeast, made, committing, committingFound}
 use Rattle.creek.specs.Plan.{invokeRefusal, deliverRefusal, commitRefusal}
 use Rattle.creek.specs.Execution.{registers, adjusted, undone, undoRefusal, executedNext, executeRefusal}
 use Rattle.creek.specs.Book.{refusal, accepted}
@@ -19,24 +19,32 @@ use Rattle.creek.specs.Calls.{badShop, freshRefusal, fresh, accept, step
 use Rattle.creek.specs.History.{run, settleDown}
 use Rattle.creek.specs.Showing.{registerShown}
 use Rattle.creek.specs.Demand.{mostUndos}
-use Rattle.creek.specs.Examples.{Case, onRegisters, answers, numbers, driven}
-use Rattle.creek.specs.Cases.{standing, worked, afterWorked, cases}
+use Rattle.creek.specs.Examples.{Case, onRegisters, answers, spreads, eventsAndClocks, numbers, driven}
+use Rattle.creek.specs.Cases.{standing, worked, afterWorked, nineNineEight, cases}
 use Rattle.creek.specs.Faults.{strongHeard, twiceChanged, overtaken, falling, overtaking, faults, reaching}
+use Rattle.creek.specs.Readings.{madeAndHeard, readings}
 
 pub edge-cases : map (λ (c : Case). c .computed) cases ≡ map (λ (c : Case). c .said) cases
-unfolding cases standing worked afterWorked onRegisters answers numbers driven freshRefusal sameNumber badNumber sameOperation badOperation
+unfolding cases standing worked afterWorked nineNineEight onRegisters answers spreads eventsAndClocks numbers driven freshRefusal sameNumber badNumber sameOperation badOperation
     sameWords sameContext allZero isEmpty namesFrom bit member join leave lackedWords difference subset before sameRequest
-    badContext offBoard added claimed movable moved exec response replayOn replay lastEvent lastClock entered made committing
+    badContext offBoard added claimed movable moved exec response replayOn replay lastEvent lastClock entered atLeast made committing
     committingFound invokeRefusal deliverRefusal commitRefusal registers adjusted undone undoRefusal executedNext executeRefusal
     refusal accepted acceptedAnswer settlementReply stableReplyDue namedByRefusal answerOf acceptedAwaiting badShop fresh accept
     step run settleDown registerShown
 edge-cases = refl
 
+-- each reading chosen is what is computed
+pub readings-told : map (λ (c : Case). c .computed) readings ≡ map (λ (c : Case). c .said) readings
+unfolding readings madeAndHeard answers spreads eventsAndClocks sameNumber badNumber badOperation allZero isEmpty namesFrom bit member
+    join leave before badContext lastEvent lastClock entered without atLeast made invokeRefusal deliverRefusal adjusted refusal
+    accepted acceptedAnswer namedByRefusal answerOf acceptedAwaiting badShop fresh accept step run
+readings-told = refl
+
 -- each fault would show
 pub faults-shown : map (λ (c : Case). c .computed) faults ≡ map (λ (c : Case). c .said) faults
 unfolding faults standing strongHeard twiceChanged overtaken numbers driven sameNumber badNumber sameOperation badOperation sameWords
     sameContext allZero isEmpty namesFrom bit member join leave lackedWords difference subset before sameRequest badContext
-    offBoard added claimed movable moved exec response replayOn replay lastEvent lastClock entered without made committing
+    offBoard added claimed movable moved exec response replayOn replay lastEvent lastClock entered without atLeast made committing
     committingFound invokeRefusal deliverRefusal commitRefusal registers adjusted undone undoRefusal executedNext executeRefusal
     refusal accepted responseOn responseIn executionMark executionReply undoReply acceptedAnswer settlementReply stableReplyDue
     namedByRefusal answerOf acceptedAwaiting badShop fresh accept step run settleDown registerShown

@@ -18,7 +18,7 @@ use Rattle.request.proofs.OrderLaws.{before-irreflexive, before-transitive, bef
 use Rattle.request.proofs.EqualityLaws.{sameRequest-sound, sameRequest-self}
 use Rattle.creek.specs.declared.Invocation.{Invocation}
 use Rattle.lists.specs.Lists.{count, somePasses, consIf, keep, commonStart, Ordered}
-use Rattle.creek.specs.Plan.{Plan, hasNumber, placed, without, later, made}
+use Rattle.creek.specs.Plan.{Plan, hasNumber, lastClock, placed, without, later, atLeast, made}
 use Rattle.creek.specs.Execution.{Execution, adjusted}
 use Rattle.creek.proofs.ContextLaws.{member-without}
 use Rattle.lists.proofs.ListLaws.{first-ordered, rest-ordered, one-true, one-false, one-zero, count-append, count-implies}
@@ -73,9 +73,10 @@ placed-between x (y ∷ ys) absent o =
 
 pub made-names : (a : Plan) (i : Invocation) (n : Number) → i .strong ≡ true
     → member (made a i .context) n ≡ (member (a .known) n && not (somePasses (hasNumber n) (subsequent (made a i) (a .tentative))))
-unfolding made before
+unfolding made atLeast before
 made-names a i n strong =
-    ap (λ (b : Bool). member (cond b (without (a .known) (later a i)) emptySet) n) strong ∙ member-without (a .known) (later a i) n
+    let others = later a (atLeast (lastClock a) i) in
+    ap (λ (b : Bool). member (cond b (without (a .known) others) emptySet) n) strong ∙ member-without (a .known) others n
 
 -- ---- adjusting
 

@@ -14,5 +14,6 @@ pub mod Demand
 pub mod ResponseLaws
 pub mod StableReply
 pub mod Waiting
+pub mod Clocks
 pub mod CreekLines
 pub mod Cases

@@ -16,7 +16,7 @@ use Rattle.numbers.proofs.NumberLaws.{sameNumber-sound, sameNumber-self}
 use Rattle.request.proofs.EqualityLaws.{sameRequest-sound, sameRequest-self}
 use Rattle.creek.specs.declared.Invocation.{Invocation}
 use Rattle.lists.specs.Lists.{one, someIf, find}
-use Rattle.creek.specs.Plan.{Plan, order, hasNumber, held, isOf, lastEvent, clockOf, lastClock, entered, nextNumber, made}
+use Rattle.creek.specs.Plan.{Plan, order, hasNumber, held, isOf, lastEvent, clockOf, lastClock, entered, nextNumber, atLeast, made}
 use Rattle.creek.specs.Plan.{committing, invokeRefusal, deliverRefusal}
 use Rattle.creek.specs.Sound.{SoundPlan}
 use Rattle.lists.proofs.ListLaws.{one-true, one-false, find-moved}
@@ -45,7 +45,7 @@ module _ (a : Plan) (sound : SoundPlan a) (i : Invocation) (taken : invokeRefusa
   unfolding made
   lastEvent-made = omega (arith, lastEvent-entered a (made a i) (made-new a sound i taken) sound, one-true (eq-eqb (a .own) (a .own) refl))
 
-  pub lastClock-made : lastClock (entered a (made a i)) ≡ i .clock .0
+  pub lastClock-made : lastClock (entered a (made a i)) ≡ atLeast (lastClock a) i .clock .0
   unfolding made entered
   lastClock-made =
       last-clock (entered a (made a i)) (a .own) (suc (lastEvent a)) refl lastEvent-made

@@ -24,7 +24,7 @@ use Rattle.sets.proofs.SetLaws.{member-join, member-empty, empty-set-empty, sub
 use Rattle.creek.specs.declared.Invocation.{Invocation}
 use Rattle.lists.specs.Lists.{one, count, keep, find, Ordered}
 use Rattle.creek.specs.Plan.{Plan, order, hasNumber, held, isOf, lastEvent, lastClock, knownWith, placed, entered, without}
-use Rattle.creek.specs.Plan.{nextNumber, requestWith, later, made, named, stays, committing, committingFound, committingNumber, met}
+use Rattle.creek.specs.Plan.{nextNumber, requestWith, later, atLeast, made, named, stays, committing, committingFound, committingNumber, met}
 use Rattle.creek.specs.Plan.{invokeRefusal, heldRefusal, deliverRefusal, isCommitted, waits, foundRefusal, commitRefusal}
 use Rattle.creek.specs.Sound.{isBad, ownBeyond, Held, unknown, knownAgainstStrength, SoundPlan}
 use Rattle.lists.proofs.ListLaws.{one-true, one-false, count-append, count-implies, count-never, count-weaker, counts-length}
@@ -53,7 +53,7 @@ all-good g = neither (neither (g .number) (g .operation)) (g .context)
 
 -- ---- the request that is made
 
-module _ (a : Plan) (sound : SoundPlan a) (i : Invocation) where
+module _ (a : Plan) (sound : SoundPlan a) where
   -- the next own number is not held
   next-absent : count (hasNumber (nextNumber a)) (order a) ≡ 0
   unfolding lastEvent ownBeyond
@@ -71,6 +71,8 @@ module _ (a : Plan) (sound : SoundPlan a) (i : Invocation) where
           let event : suc (lastEvent a) ≡ x .number .event .0 = ap (λ (n : Number). n .event .0) same in
           both (eq-eqb (x .number .panel .0) (a .own) (sym panel)) (lt-ltb (lastEvent a) (x .number .event .0) (omega arith))
 
+-- a request asked for with any clock reading
+module _ (a : Plan) (sound : SoundPlan a) (i : Invocation) where
   -- the later tentative requests are of panels of the shop
   later-inside : count (beyond (a .panels)) (later a i) ≡ 0
   unfolding badNumber isBad
@@ -88,7 +90,7 @@ module _ (a : Plan) (sound : SoundPlan a) (i : Invocation) where
           let far : not (ltb (x .number .panel .0) (a .panels)) ≡ true = both-true (before (requestWith a i emptySet) x) _ e .1 in
           rw far
 
-  made-context : (strong : Bool) → badContext (a .panels) (record {
+  good-context : (strong : Bool) → badContext (a .panels) (record {
     number = nextNumber a;
     clock = i .clock;
     operation = i .operation;
@@ -96,14 +98,15 @@ module _ (a : Plan) (sound : SoundPlan a) (i : Invocation) where
     context = cond strong (without (a .known) (later a i)) emptySet;
   }) ≡ false
   unfolding badContext
-  made-context false = neither (neither (ap not empty-set-empty) (member-empty (nextNumber a))) (namesFrom-empty (a .panels))
-  made-context true = neither (go (member (without (a .known) (later a i)) (nextNumber a)) refl)
+  good-context false = neither (neither (ap not empty-set-empty) (member-empty (nextNumber a))) (namesFrom-empty (a .panels))
+  good-context true = neither (go (member (without (a .known) (later a i)) (nextNumber a)) refl)
       (without-namesFrom (a .panels) (a .known) (later a i) later-inside ∙ sound .held .known-panels)
     where
       go : (b : Bool) → member (without (a .known) (later a i)) (nextNumber a) ≡ b → b ≡ false
-      go true e = absurd (omega (arith, next-absent, sound .held .known-held _ (without-member (a .known) (later a i) _ e)))
+      go true e = absurd (omega (arith, next-absent a sound, sound .held .known-held _ (without-member (a .known) (later a i) _ e)))
       go false e = refl
 
+module _ (a : Plan) (sound : SoundPlan a) (i : Invocation) where
   made-last : ownBeyond (a .own) (count (isOf (a .own)) (made a i ∷ order a)) (made a i) ≡ false
   unfolding ownBeyond made lastEvent
   made-last =
@@ -111,20 +114,19 @@ module _ (a : Plan) (sound : SoundPlan a) (i : Invocation) where
       second-false (isOf (a .own) (made a i)) (le-ltb (count (isOf (a .own)) (made a i ∷ order a)) (suc (lastEvent a)) (omega arith))
 
   pub made-new : invokeRefusal a i ≡ refused.accepted → New a (made a i)
-  unfolding invokeRefusal made
+  unfolding invokeRefusal made atLeast
   made-new e =
       let operation = passed (badOperation (i .operation)) refused.badOperation _ tt e in
-      let clock = passed (ltb (i .clock .0) (lastClock a)) refused.clockBack _ tt (operation .1) in
-      let room = leb-false mostEvents (lastEvent a) (passed _ refused.shiftFull refused.accepted tt (clock .1) .0) in
+      let room = leb-false mostEvents (lastEvent a) (passed _ refused.shiftFull refused.accepted tt (operation .1) .0) in
       record {
         good = all-good (record {
           number =
               number-good (a .panels) (nextNumber a) (record { panel = sound .held .own-below; least = omega arith; most = omega arith });
           operation = operation .0;
-          context = made-context (i .strong);
+          context = good-context a sound (atLeast (lastClock a) i) (i .strong);
         });
         last = made-last;
-        absent = next-absent;
+        absent = next-absent a sound;
       }
 
 -- ---- a request that is heard

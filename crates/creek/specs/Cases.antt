@@ -11,7 +11,8 @@ use Rattle.creek.specs.Book.{Call, deliver, commit}
 use Rattle.creek.specs.Calls.{Replica, freshRefusal, fresh}
 use Rattle.creek.specs.History.{run}
 use Rattle.creek.specs.Showing.{registerShown, undosShown, executionsShown}
-use Rattle.creek.specs.Examples.{Case, case, read, setTo, add, claim, move, weak, strong, make, onRegisters, answers, numbers, driven}
+use Rattle.creek.specs.Examples.{Case, case, read, setTo, add, claim, move, weak, strong, make, onRegisters, answers}
+use Rattle.creek.specs.Examples.{spreads, eventsAndClocks, numbers, driven}
 
 -- the printout's input for panel 2 of 3
 unfoldable pub worked : List Call
@@ -28,6 +29,10 @@ afterWorked = driven (fresh 3 2) worked
 -- the standing order at panel 2 of 3 after those calls
 unfoldable pub standing : List Call → List ℕ
 standing calls = numbers (order (run (fresh 3 2) calls .book .plan))
+
+-- three requests made with clocks 9, 9 and 8
+unfoldable pub nineNineEight : List Call
+nineNineEight = make 9 (read 0) ∷ make 9 (read 0) ∷ make 8 (read 0) ∷ []
 
 -- ---- the cases
 
@@ -52,9 +57,10 @@ cases =
     -- equal clocks: 0/9 stands before 1/1, whichever is heard first
     ∷ case (standing (deliver (weak 1 1 7 (read 0)) ∷ deliver (weak 0 9 7 (read 0)) ∷ [])) (0 ∷ 9 ∷ 1 ∷ 1 ∷ [])
     ∷ case (standing (deliver (weak 0 9 7 (read 0)) ∷ deliver (weak 1 1 7 (read 0)) ∷ [])) (0 ∷ 9 ∷ 1 ∷ 1 ∷ [])
-    -- own clock equal to the last good; one less 5
-    ∷ case (answers (fresh 1 0) (make 9 (read 0) ∷ make 9 (read 0) ∷ make 8 (read 0) ∷ []))
-    (refused.accepted ∷ refused.accepted ∷ refused.clockBack ∷ [])
+    -- own clock equal to the last good; so is one less, as document 02's request (b) amends it: it is event 3 and takes the 9
+    ∷ case (answers (fresh 1 0) nineNineEight) (refused.accepted ∷ refused.accepted ∷ refused.accepted ∷ [])
+    ∷ case (eventsAndClocks (spreads (fresh 1 0) nineNineEight)) (1 ∷ 9 ∷ 2 ∷ 9 ∷ 3 ∷ 9 ∷ [])
+    ∷ case (eventsAndClocks (order (run (fresh 1 0) nineNineEight .book .plan))) (1 ∷ 9 ∷ 2 ∷ 9 ∷ 3 ∷ 9 ∷ [])
     -- a 64th request good, a 65th 6
     ∷ case (answers (fresh 1 0) (replicate 65 (make 9 (read 0)))) (replicate 64 refused.accepted ++ refused.shiftFull ∷ [])
     -- heard twice 7; with another clock 8

@@ -83,6 +83,16 @@ unfoldable pub answers : Replica → List Call → List ℕ
 answers r [] = []
 answers r (c ∷ cs) = answer r c .refusal ∷ answers (step r c) cs
 
+-- the requests that those calls spread, in turn; one of zeros for a call that spreads none
+unfoldable pub spreads : Replica → List Call → List Request
+spreads r [] = []
+spreads r (c ∷ cs) = answer r c .request ∷ spreads (step r c) cs
+
+-- event and clock reading of each request
+unfoldable pub eventsAndClocks : List Request → List ℕ
+eventsAndClocks [] = []
+eventsAndClocks (x ∷ xs) = x .number .event .0 ∷ x .clock .0 ∷ eventsAndClocks xs
+
 -- panel and event of each request
 unfoldable pub numbers : List Request → List ℕ
 numbers [] = []

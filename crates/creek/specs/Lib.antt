@@ -10,7 +10,9 @@ pub mod Sound
 pub mod Demand
 pub mod StableReply
 pub mod Waiting
+pub mod Clocks
 pub mod Stack
 pub mod Examples
 pub mod Cases
 pub mod Faults
+pub mod Readings

@@ -2,15 +2,15 @@
 -- request enters it (make, hear), how one is committed (settle), and the refusals of these calls. Nothing here executes.
 --
 -- Document 01's words: committed is its settled list, tentative its unsettled list. Numbers in brackets are lines of Creek's Algorithm 1.
-use Prim.Native.Nat.{ℕ, suc}
+use Prim.Native.Nat.{ℕ, suc, max}
 use mathlib.Core.Bool.{Bool, not, _||_, cond}
 use mathlib.Core.List.{List, [], _∷_, _++_}
 use mathlib.Core.Option.{Option, none, some}
-use lib.Dec.{leb, ltb, eqb}
+use lib.Dec.{leb, eqb}
 use Rattle.sets.specs.declared.Context.{Context}
 use Rattle.numbers.specs.declared.Number.{Number}
 use Rattle.request.specs.declared.Request.{Request}
-use Rattle.numbers.specs.Numbers.{numbered, sameNumber, badNumber, mostEvents}
+use Rattle.numbers.specs.Numbers.{clockReading, numbered, sameNumber, badNumber, mostEvents}
 use Rattle.request.specs.Operations.{badOperation}
 use Rattle.sets.specs.Sets.{emptySet, member, join, leave, subset}
 use Rattle.request.specs.Order.{before}
@@ -110,9 +110,18 @@ requestWith a i context = record {
 abbrev pub later : Plan → Invocation → List Request
 later a i = keep (before (requestWith a i emptySet)) (a .tentative)
 
--- the request to be spread: a strong one's context is the known set without the later tentative requests, a weak one's is empty [18, 19]
+-- its context: a strong one's is the known set without the later tentative requests, a weak one's is empty [18, 19]
+abbrev pub contextOf : Plan → Invocation → Context
+contextOf a i = cond (i .strong) (without (a .known) (later a i)) emptySet
+
+-- i with its clock reading or, where that is lower, with the given one
+unfoldable pub atLeast : ℕ → Invocation → Invocation
+atLeast last i = record { operation = i .operation; strong = i .strong; clock = clockReading (max last (i .clock .0)) }
+
+-- the request to be spread; one made with a lower clock takes the reading of the last own request (document 02, request (b)), and that
+-- reading gives it its place and its context too
 unfoldable pub made : Plan → Invocation → Request
-made a i = requestWith a i (cond (i .strong) (without (a .known) (later a i)) emptySet)
+made a i = let raised = atLeast (lastClock a) i in requestWith a raised (contextOf a raised)
 
 -- ---- a request is committed [32 to 35, 48 to 52]
 
@@ -150,13 +159,12 @@ committingNumber a n = committingFound a (find (hasNumber n) (a .tentative))
 abbrev pub met : Bool → ℕ → ℕ → ℕ
 met test number rest = cond test number rest
 
--- make: bad operation, clock back, shift full
+-- make: bad operation, shift full; a lower clock is no refusal (document 02, request (b))
 unfoldable pub invokeRefusal : Plan → Invocation → ℕ
 invokeRefusal a i =
     met (badOperation (i .operation)) refused.badOperation
-    (met (ltb (i .clock .0) (lastClock a)) refused.clockBack
     (met (leb mostEvents (lastEvent a)) refused.shiftFull
-    refused.accepted))
+    refused.accepted)
 
 -- held already where the request is held with all fields equal, number clash where some other field differs
 abbrev pub heldRefusal : Option Request → Request → ℕ

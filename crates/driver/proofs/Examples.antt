@@ -12,7 +12,7 @@ use Rattle.registers.specs.Replay.{replayOn, replay}
 use Rattle.creek.specs.Book.{refusal, accepted}
 use Rattle.creek.specs.Calls.{badShop, fresh, accept, step}
 use Rattle.creek.specs.Execution.{registers, adjusted, executedNext, executeRefusal}
-use Rattle.creek.specs.Plan.{lastEvent, lastClock, entered, made, invokeRefusal}
+use Rattle.creek.specs.Plan.{lastEvent, lastClock, entered, atLeast, made, invokeRefusal}
 use Rattle.creek.specs.Replies.{executionMark, executionReply, acceptedAnswer, answerOf, acceptedAwaiting}
 use Rattle.wire.specs.Integers.{integerAt, integerBytes}
 use Rattle.wire.specs.Layout.{layout, size, decode, encode, sizeOf, fieldsAt}
@@ -41,7 +41,7 @@ pub made-and-carried-out : answersBytes (freshOf asked) (entriesOf asked)
     ≡ (0 ∷ 0 ∷ 0 ∷ 0 ∷ 0 ∷ 0 ∷ 0 ∷ 0 ∷ spread ++ replicate 64 0) ++ 0 ∷ 1 ∷ 0 ∷ 1 ∷ 7 ∷ 0 ∷ 0 ∷ 0 ∷ zeros
 unfolding sameNumber badNumber badOperation before allZero isEmpty bit member join leave offBoard added claimed movable
     moved exec response replayOn replay refusal accepted badShop fresh accept step registers adjusted executedNext
-    executeRefusal lastEvent lastClock entered made invokeRefusal executionMark executionReply acceptedAnswer answerOf
+    executeRefusal lastEvent lastClock entered atLeast made invokeRefusal executionMark executionReply acceptedAnswer answerOf
     acceptedAwaiting integerAt integerBytes layout size decode encode sizeOf fieldsAt kindOf contents fieldsOf bytesOf
     messageFrom weakWithContext bare held noMessage answered lengthAt kindAt spareAt refusalAs readAs readAt messageAt
     invocationOf callOf callAt entryAt entriesFrom callCount entriesOf after answerTo messageBytes headBytes answerBytes answersBytes

@@ -3,27 +3,21 @@
 use Prim.Native.Nat.{ℕ, zero, suc, _≤_, _<_}
 use native.Mathlib.Omega.{arith}
 use mathlib.Core.Path.{_≡_, refl, sym, ap, _∙_}
-use mathlib.Core.Bool.{Bool, true, false, cond}
 use mathlib.Core.List.{List, [], _∷_}
 use lib.ListN.{replicate}
 use lib.Dec.{eqb}
-use Rattle.sets.specs.declared.Context.{Context}
-use Rattle.request.specs.declared.Request.{Request}
-use Rattle.numbers.specs.Numbers.{noNumber}
 use Rattle.request.specs.Refusal as refused
 use Rattle.registers.specs.Replay.{replay}
 use Rattle.creek.specs.declared.Answer.{Answer}
 use Rattle.creek.specs.Plan.{order}
 use Rattle.creek.specs.Execution.{operations, registers, owed, isIdle}
-use Rattle.creek.specs.Book.{Call, invoke, deliver, commit, undo, execute, Book, refusal, accepted, notedAll}
-use Rattle.creek.specs.Replies.{stableMark, reply, done, responseIn, stableReplyDue}
-use Rattle.creek.specs.Replies.{settlementReply, undoReply, executionReply, acceptedAnswer}
+use Rattle.creek.specs.Book.{Call, Book, refusal, accepted, notedAll}
 use Rattle.creek.specs.Calls.{Replica, fresh, step, answer}
 use Rattle.creek.specs.History.{run, due, settleDown, dueCalls}
 use Rattle.creek.proofs.DueLaws.{due-calls, run-due}
 use Rattle.creek.specs.Showing.{owedShown}
 use Rattle.creek.specs.Demand.{Demand3}
-use Rattle.creek.proofs.CallLaws.{by-outcome, step-book, run-book}
+use Rattle.creek.proofs.CallLaws.{answer-refusal, step-book, run-book}
 use Rattle.creek.proofs.Demand.{demand-3}
 use Rattle.replica.specs.declared.State.{State}
 use Rattle.replica.specs.declared.Opened.{Opened}
@@ -54,35 +48,6 @@ leads-answers inv (call {cs = cs} r kept rest) =
     let first = kept inv .answer in
     let others = leads-answers (kept inv .invariant) rest ∙ ap (λ (x : Replica). answersTo x cs) (kept inv .state) in
     λ i. first i ∷ others i
-
--- ---- for the crate below: the refusal number of an answer
-
--- an accepted call answers 0
-accepted-refusal : (b : Book) (awaiting : Context) (c : Call) → acceptedAnswer b awaiting c .refusal ≡ refused.accepted
-unfolding acceptedAnswer settlementReply undoReply executionReply
-accepted-refusal b awaiting (invoke i) = refl
-accepted-refusal b awaiting (deliver x) = refl
-accepted-refusal b awaiting (commit n) = go (stableReplyDue (accepted b (commit n)) awaiting n)
-  where
-    go : (v : Bool) → cond v (reply noNumber (responseIn n (accepted b (commit n) .execution .executed)) stableMark) done .refusal
-        ≡ refused.accepted
-    go true = refl
-    go false = refl
-accepted-refusal b awaiting undo = go (b .execution .rollback)
-  where
-    go : (l : List Request) → undoReply l .refusal ≡ refused.accepted
-    go [] = refl
-    go (x ∷ xs) = refl
-accepted-refusal b awaiting execute = go (b .execution .todo)
-  where
-    go : (l : List Request) → executionReply b awaiting l .refusal ≡ refused.accepted
-    go [] = refl
-    go (x ∷ xs) = refl
-
--- a call answers with the book's refusal number
-answer-refusal : (r : Replica) (c : Call) → answer r c .refusal ≡ refusal (r .book) c
-answer-refusal r c =
-    by-outcome (λ v a q. a .refusal ≡ refusal (r .book) c) r c (λ taken. accepted-refusal (r .book) (r .awaiting) c ∙ sym taken) refl
 
 -- ---- what the book says
 

@@ -1,3 +1,4 @@
--- Demand 3 of every panel that keeps its contracts, and that no worthless panel keeps them.
+-- Of every panel that keeps its contracts: demand 3, and clocks that are put back; and that no worthless panel keeps them.
 pub mod History
+pub mod Clocks
 pub mod Worthless

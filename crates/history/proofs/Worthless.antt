@@ -12,7 +12,7 @@ use Rattle.request.specs.Refusal as refused
 use Rattle.registers.specs.Effect.{offBoard, exec, response}
 use Rattle.registers.specs.Replay.{replayOn, replay}
 use Rattle.creek.specs.declared.Answer.{Answer}
-use Rattle.creek.specs.Plan.{lastEvent, lastClock, entered, made, invokeRefusal}
+use Rattle.creek.specs.Plan.{lastEvent, lastClock, entered, atLeast, made, invokeRefusal}
 use Rattle.creek.specs.Execution.{operations, registers, adjusted, executedNext, executeRefusal}
 use Rattle.creek.specs.Book.{Call, execute, refusal, accepted}
 use Rattle.creek.specs.Replies.{executionMark, executionReply, acceptedAnswer, answerOf, acceptedAwaiting}
@@ -55,9 +55,9 @@ record Computed : Type 0 where
   all-executed : getD (replay (operations (running (twoSets []) .book .execution .todo))) 0 0 ≡ secondValue
 
 computed : Computed
-unfolding sameNumber badOperation bit member join leave before offBoard exec response replayOn replay lastEvent lastClock entered made
-    invokeRefusal registers adjusted executedNext executeRefusal refusal accepted executionMark executionReply acceptedAnswer answerOf
-    acceptedAwaiting badShop fresh accept step run registerShown answersTo
+unfolding sameNumber badOperation bit member join leave before offBoard exec response replayOn replay lastEvent lastClock entered
+    atLeast made invokeRefusal registers adjusted executedNext executeRefusal refusal accepted executionMark executionReply
+    acceptedAnswer answerOf acceptedAwaiting badShop fresh accept step run registerShown answersTo
 computed = record {
   sets-accepted = refl;
   first-accepted = refl;

@@ -5,15 +5,16 @@ use native.Mathlib.Numerals.{add-one}
 use mathlib.Core.Path.{_≡_, refl, sym, ap, _∙_}
 use mathlib.Core.Bool.{Bool, true, false, _||_, cond}
 use mathlib.Core.List.{List, [], _∷_, map}
-use lib.Dec.{leb, ltb}
-use borrow.Author.Tests.{leb-false, lt-ltb, le-ltb, le-leb, lt-leb}
+use lib.Dec.{leb}
+use borrow.Author.Tests.{leb-false, le-leb, lt-leb}
 use Rattle.lists.specs.Lists.{keep}
 use Rattle.lists.proofs.AllLaws.{all-weaken, all-drop}
 use Rattle.lists.proofs.MapLaws.{map-drop, keep-map, keep-agree}
 use Rattle.sets.specs.declared.Context.{Context}
+use Rattle.numbers.specs.declared.Clock.{Clock}
 use Rattle.numbers.specs.declared.Number.{Number}
 use Rattle.request.specs.declared.Request.{Request}
-use Rattle.numbers.specs.Numbers.{eventNo, sameNumber, mostPanels, mostEvents, GoodNumber, slotOf, numberOf, noNumber}
+use Rattle.numbers.specs.Numbers.{eventNo, clockReading, sameNumber, mostPanels, mostEvents, GoodNumber, slotOf, numberOf, noNumber}
 use Rattle.request.specs.Operations.{badOperation}
 use Rattle.sets.specs.Sets.{emptySet, member, join, leave}
 use Rattle.request.specs.Order.{before}
@@ -24,7 +25,8 @@ use Rattle.slots.specs.Slots.{IsSlot, comesBefore, without as withoutSlots}
 use Rattle.slots.proofs.SlotLaws.{comes-before-order}
 use Rattle.creek.specs.declared.Invocation.{Invocation}
 use Rattle.creek.specs.declared.Answer.{Answer}
-use Rattle.creek.specs.Plan.{lastEvent, lastClock, entered, without, nextNumber, requestWith, later, made, invokeRefusal}
+use Rattle.creek.specs.Plan.{lastEvent, lastClock, entered, without, nextNumber, requestWith, later, contextOf, atLeast, made}
+use Rattle.creek.specs.Plan.{invokeRefusal}
 use Rattle.creek.specs.Book.{invoke, refusal, accepted}
 use Rattle.creek.specs.Replies.{spread, refusedWith, namedByRefusal, acceptedAnswer, acceptedAwaiting}
 use Rattle.creek.specs.Calls.{accept}
@@ -77,32 +79,42 @@ module _ (p : State) (inv : Inv p) (i : Invocation) (good : GoodNumber mostPanel
       ≡ withoutSlots (p .known) (laterSlots p (i .clock .0) (slotOf (nextNumber (planOf p))))
   context-at = ap (without (p .known)) later-at ∙ without-at (p .clocks) (p .bodies) (p .known) _
 
+-- ---- the reading that is taken
+
+-- the invocation with that reading
+abbrev pub withClock : Invocation → Clock → Invocation
+withClock i clock = record { operation = i .operation; strong = i .strong; clock = clock }
+
+module _ (last : Clock) (i : Invocation) where
+  pub as-asked : last .0 ≤ i .clock .0 → i ≡ atLeast (last .0) i
+  unfolding atLeast
+  as-asked h = ap (λ (c : ℕ). withClock i (clockReading c)) (omega arith)
+
+  pub raised-to-last : i .clock .0 < last .0 → withClock i last ≡ atLeast (last .0) i
+  unfolding atLeast
+  raised-to-last h = ap (λ (c : ℕ). withClock i (clockReading c)) (omega arith)
+
 -- ---- the refusals, test by test
 
-module _ (clock events : ℕ) (i : Invocation) where
-  pub asked-operation : badOperation (i .operation) ≡ true → Asked clock events i refused.badOperation
+module _ (events : ℕ) (i : Invocation) where
+  pub asked-operation : badOperation (i .operation) ≡ true → Asked events i refused.badOperation
   unfolding invokeRefusal
-  asked-operation bad = record { word = λ a e f. rw bad }
+  asked-operation bad = record { word = λ a e. rw bad }
 
   module _ (good : badOperation (i .operation) ≡ false) where
-    pub asked-clock : i .clock .0 < clock → Asked clock events i refused.clockBack
+    pub asked-full : mostEvents ≤ events → Asked events i refused.shiftFull
     unfolding invokeRefusal
-    asked-clock back = record { word = λ a e f. rw (good, e, lt-ltb (i .clock .0) clock back) }
+    asked-full full = record { word = λ a e. rw (good, e, le-leb mostEvents events full) }
 
-    module _ (on : clock ≤ i .clock .0) where
-      pub asked-full : mostEvents ≤ events → Asked clock events i refused.shiftFull
-      unfolding invokeRefusal
-      asked-full full = record { word = λ a e f. rw (good, e, le-ltb (i .clock .0) clock on, f, le-leb mostEvents events full) }
-
-      pub asked-passes : events < mostEvents → Asked clock events i refused.accepted
-      unfolding invokeRefusal
-      asked-passes left = record { word = λ a e f. rw (good, e, le-ltb (i .clock .0) clock on, f, lt-leb mostEvents events left) }
+    pub asked-passes : events < mostEvents → Asked events i refused.accepted
+    unfolding invokeRefusal
+    asked-passes left = record { word = λ a e. rw (good, e, lt-leb mostEvents events left) }
 
 -- ---- refused
 
-module _ (p : State) (i : Invocation) (inv : Inv p) (w : ℕ) (asked : Asked (p .clock .0) (p .events) i w) where
+module _ (p : State) (i : Invocation) (inv : Inv p) (w : ℕ) (asked : Asked (p .events) i w) where
   word-is : w ≡ invokeRefusal (planOf p) i
-  word-is = asked .word (planOf p) (sym (inv .clock)) (sym (inv .events))
+  word-is = asked .word (planOf p) (sym (inv .events))
 
   pub kept-asked : (a : Answer) → (w ≡ refused.accepted → ⊥) → a ≡ refusedWith w noNumber
       → Kept p (invoke i) (record { answer = a; state = p })
@@ -120,8 +132,7 @@ module _ (p : State) (i : Invocation) (inv : Inv p) (w : ℕ) (asked : Asked (p 
     unfolding invokeRefusal
     events-left =
         let operation = passed (badOperation (i .operation)) refused.badOperation _ tt taken in
-        let clock = passed (ltb (i .clock .0) (lastClock (planOf p))) refused.clockBack _ tt (operation .1) in
-        let events = passed (leb mostEvents (lastEvent (planOf p))) refused.shiftFull refused.accepted tt (clock .1) in
+        let events = passed (leb mostEvents (lastEvent (planOf p))) refused.shiftFull refused.accepted tt (operation .1) in
         omega (arith, inv .events, leb-false mostEvents (lastEvent (planOf p)) (events .0))
 
     made-enters : Enters p (made (planOf p) i)
@@ -137,25 +148,34 @@ module _ (p : State) (i : Invocation) (inv : Inv p) (w : ℕ) (asked : Asked (p 
         let event : p .events + 1 ≡ suc (lastEvent (planOf p)) = add-one (p .events) ∙ ap suc (inv .events) in
         λ j. record { panel = p .own; event = eventNo (event j) }
 
-    module _ (s : ℕ) (slot-is : s ≡ slotOf (nextOwn p)) (context : Context)
-        (context-is : context ≡ contextFor i (p .known) (p .clocks) s (tentativeSlots p)) where
-      context-made : context ≡ cond (i .strong) (without (p .known) (later (planOf p) i)) emptySet
+    -- j is the invocation with the reading that it takes
+    module _ (j : Invocation) (raised : j ≡ atLeast (p .clock .0) i) (s : ℕ) (slot-is : s ≡ slotOf (nextOwn p)) (context : Context)
+        (context-is : context ≡ contextFor j (p .known) (p .clocks) s (tentativeSlots p)) where
+      context-made : context ≡ contextOf (planOf p) j
+      unfolding planOf
       context-made =
           context-is
-          ∙ ap (λ (t : ℕ). contextFor i (p .known) (p .clocks) t (tentativeSlots p)) (slot-is ∙ ap slotOf next-is)
-          ∙ ap (λ (c : Context). cond (i .strong) c emptySet) (sym (context-at p inv i next-good))
+          ∙ ap (λ (t : ℕ). contextFor j (p .known) (p .clocks) t (tentativeSlots p)) (slot-is ∙ ap slotOf next-is)
+          ∙ ap (λ (c : Context). cond (j .strong) c emptySet) (sym (context-at p inv j next-good))
 
-      request-made : asRequest p i context ≡ made (planOf p) i
-      unfolding made planOf
-      request-made = λ j. record {
-        number = next-is j;
-        clock = i .clock;
-        operation = i .operation;
-        strong = i .strong;
-        context = context-made j;
+      with-context : asRequest p j context ≡ requestWith (planOf p) j (contextOf (planOf p) j)
+      unfolding planOf
+      with-context = λ k. record {
+        number = next-is k;
+        clock = j .clock;
+        operation = j .operation;
+        strong = j .strong;
+        context = context-made k;
       }
 
-      pub asked-enters : Enters p (asRequest p i context)
+      taken-reading : j ≡ atLeast (lastClock (planOf p)) i
+      taken-reading = raised ∙ ap (λ (clock : ℕ). atLeast clock i) (inv .clock)
+
+      request-made : asRequest p j context ≡ made (planOf p) i
+      unfolding made
+      request-made = with-context ∙ ap (λ (v : Invocation). requestWith (planOf p) v (contextOf (planOf p) v)) taken-reading
+
+      pub asked-enters : Enters p (asRequest p j context)
       asked-enters = rw request-made made-enters
 
       waits-own : (n : Number) → member (join (p .awaiting) (nextOwn p)) n ≡ true → n .panel .0 ≡ p .own .0
@@ -167,22 +187,22 @@ module _ (p : State) (i : Invocation) (inv : Inv p) (w : ℕ) (asked : Asked (p 
           go true f g = ap (λ (m : Number). m .panel .0) (sym (sameNumber-sound (nextOwn p) n f))
           go false f g = inv .awaiting-own n g
 
-      own-made : OwnSoFar (p .own .0) (entered (planOf p) (made (planOf p) i)) (join (p .awaiting) (nextOwn p)) (p .events + 1) (i .clock)
+      own-made : OwnSoFar (p .own .0) (entered (planOf p) (made (planOf p) i)) (join (p .awaiting) (nextOwn p)) (p .events + 1) (j .clock)
       own-made = record {
         words = join-length (p .awaiting) (nextOwn p) ∙ inv .lengths .awaiting;
         event = add-one (p .events) ∙ ap suc (inv .events) ∙ sym (lastEvent-made (planOf p) (plan-sound p inv) i taken);
-        reading = sym (lastClock-made (planOf p) (plan-sound p inv) i taken);
+        reading = ap (λ (v : Invocation). v .clock .0) taken-reading ∙ sym (lastClock-made (planOf p) (plan-sound p inv) i taken);
         waits = waits-own;
       }
 
-      made-model : (q : State) → Entered p (made (planOf p) i) (join (p .awaiting) (nextOwn p)) (p .events + 1) (i .clock) q
+      made-model : (q : State) → Entered p (made (planOf p) i) (join (p .awaiting) (nextOwn p)) (p .events + 1) (j .clock) q
           → model q ≡ accept (model p) (invoke i)
       unfolding model accept accepted acceptedAwaiting bookOf made
       made-model q e = rw next-is at (e .replica)
 
       pub kept-made : (q : State) (awaiting : Context) → awaiting ≡ join (p .awaiting) (nextOwn p)
-          → Entered p (asRequest p i context) awaiting (p .events + 1) (i .clock) q
-          → (a : Answer) → a ≡ spread (asRequest p i context) → Kept p (invoke i) (record { answer = a; state = q })
+          → Entered p (asRequest p j context) awaiting (p .events + 1) (j .clock) q
+          → (a : Answer) → a ≡ spread (asRequest p j context) → Kept p (invoke i) (record { answer = a; state = q })
       unfolding refusal acceptedAnswer bookOf
       kept-made q awaiting waits e a answers =
           let made-entered = rw (waits, request-made) at e in

@@ -10,14 +10,14 @@ use Rattle.request.specs.declared.Request.{Request}
 use Rattle.sets.specs.Sets.{emptySet}
 use Rattle.slots.specs.Slots.{comesBefore, without}
 use Rattle.creek.specs.declared.Invocation.{Invocation}
-use Rattle.creek.specs.Plan.{Plan, emptyPlan, lastEvent, lastClock, invokeRefusal, deliverRefusal}
+use Rattle.creek.specs.Plan.{Plan, emptyPlan, lastEvent, invokeRefusal, deliverRefusal}
 use Rattle.replica.specs.declared.Body.{Body}
 
 -- ---- what is asked of a request that is made
 
--- w is the refusal of an invocation by a plan whose last own request had that clock reading and that event
-pub record Asked (clock events : ℕ) (i : Invocation) (w : ℕ) : Type 0 where
-  pub word : (a : Plan) → lastClock a ≡ clock → lastEvent a ≡ events → w ≡ invokeRefusal a i
+-- w is the refusal of an invocation by a plan whose last own request had that event
+pub record Asked (events : ℕ) (i : Invocation) (w : ℕ) : Type 0 where
+  pub word : (a : Plan) → lastEvent a ≡ events → w ≡ invokeRefusal a i
 
 -- the context of the request asked for, in that slot, by the clock readings and the slots of the tentative requests: the known set
 -- without the later ones, where it is strong

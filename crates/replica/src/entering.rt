@@ -25,22 +25,24 @@ ghost use mathlib.Core.Path.{_≡_};
 ghost use mathlib.Core.Option.{some};
 ghost use lib.Seq.{slice};
 ghost use Rattle.slots.specs.Slots.{OrderAsks};
-ghost use Rattle.creek.specs.Plan.{knownWith, heldRefusal};
+ghost use Rattle.creek.specs.Plan.{knownWith, atLeast, heldRefusal};
 ghost use Rattle.creek.specs.Book.{invoke as invokeCall, deliver as deliverCall};
 ghost use Rattle.creek.specs.Replies.{spread as spreadAnswer, done as doneAnswer};
 ghost use Rattle.replica.specs.Model.{Inv, Kept};
 ghost use Rattle.replica.specs.Entering.{Asked, contextFor, requestFor, judged, bodyOf};
 
-// A request is made: it enters as one that is heard does, awaits a reply, and is to be spread to the other panels.
+// A request is made: it enters as one that is heard does, awaits a reply, and is to be spread to the other panels. One made with a lower
+// clock takes the reading of the last own request.
 pub fn invoke(mut p: State, i: Invocation) -> Called
     requires { ⌜ Inv p ⌝ }
     ensures { λ r. ⌜ Kept p (invokeCall i) r ⌝ }
 {
-    let word = ask(p.clock, p.events, i);
+    let word = ask(p.events, i);
     if word != refusal::ACCEPTED {
         let answer = refused(word);
         return Called { answer, state: p };
     }
+    let raised = at_least(p.clock, i);
     let event = p.events + 1;
     let number = Number {
         panel: p.own,
@@ -49,39 +51,51 @@ pub fn invoke(mut p: State, i: Invocation) -> Called
     let slot = numbers::slot_of(number);
     let s = slot as usize;
     let n = p.ordered;
-    let context = context_for(i, p.known, &p.clocks, &p.order, p.committed, n, slot);
-    let x = request_for(number, i, context);
+    let context = context_for(raised, p.known, &p.clocks, &p.order, p.committed, n, slot);
+    let x = request_for(number, raised, context);
     let body = body_of(x);
-    let clock = i.clock;
-    let at = insertion::place(&p.clocks, &p.order, p.committed, n, clock.0, slot);
+    let at = insertion::place(&p.clocks, &p.order, p.committed, n, raised.clock.0, slot);
     p.held = sets::join(p.held, number);
-    p.known = known_with(p.known, i.strong, number);
-    p.clocks[s] = clock.0;
+    p.known = known_with(p.known, raised.strong, number);
+    p.clocks[s] = raised.clock.0;
     p.bodies[s] = body;
     insertion::insert_at(&mut p.order, n, at, slot);
     p.ordered = n + 1;
     p.executed = common::common_start(&p.stack, p.executed, &p.order, p.ordered, 0);
     p.awaiting = sets::join(p.awaiting, number);
     p.events = event;
+    let clock = raised.clock;
     p.clock = clock;
     let answer = spread(x);
     Called { answer, state: p }
 }
 
-// The refusals of an invocation after an own request of that clock reading and event: bad operation, clock back, shift full.
-fn ask(last: Clock, events: u8, i: Invocation) -> u8
-    ensures { λ w. ⌜ Asked (last .0) events i w ⌝ }
+// The refusals of an invocation after an own request of that event: bad operation, shift full.
+fn ask(events: u8, i: Invocation) -> u8
+    ensures { λ w. ⌜ Asked events i w ⌝ }
 {
     if operations::bad(i.operation) {
         return refusal::BAD_OPERATION;
-    }
-    if i.clock.0 < last.0 {
-        return refusal::CLOCK_BACK;
     }
     if numbers::MOST_EVENTS <= events {
         return refusal::SHIFT_FULL;
     }
     refusal::ACCEPTED
+}
+
+// i with its clock reading or, where that is lower, with the last one.
+fn at_least(last: Clock, i: Invocation) -> Invocation
+    ensures { λ j. ⌜ j ≡ atLeast (last .0) i ⌝ }
+{
+    if last.0 <= i.clock.0 {
+        return i;
+    }
+    let operation = i.operation;
+    Invocation {
+        operation,
+        strong: i.strong,
+        clock: last,
+    }
 }
 
 // The context of the request that i asks for, in that slot: where it is strong, the known set without the later ones of the tentative

@@ -1,5 +1,6 @@
--- The refusal numbers of document 01, by its words.
+-- The refusal numbers of document 01, by its words; and that a number is not the one that is never met any more.
 use Prim.Native.Nat.{ℕ}
+use mathlib.Core.Path.{_≡_}
 
 -- no refusal
 abbrev pub accepted : ℕ
@@ -17,6 +18,7 @@ badOperation = 3
 abbrev pub ownEcho : ℕ
 ownEcho = 4
 
+-- never met any more since document 02's request (b); the theorems that say so name it
 abbrev pub clockBack : ℕ
 clockBack = 5
 
@@ -67,3 +69,7 @@ noRoom = 20
 
 abbrev pub badContext : ℕ
 badContext = 21
+
+-- w is not 5, clock back
+abbrev pub NotClockBack : ℕ → Type 0
+NotClockBack w = w ≡ clockBack → ⊥

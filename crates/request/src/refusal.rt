@@ -1,4 +1,4 @@
-// The refusal numbers of document 01, by its words.
+// The refusal numbers of document 01, by its words; 5, clock back, is never met any more since document 02's request (b).
 pub const ACCEPTED: u8 = 0;
 
 pub const BAD_SHOP: u8 = 1;
@@ -8,8 +8,6 @@ pub const BAD_NUMBER: u8 = 2;
 pub const BAD_OPERATION: u8 = 3;
 
 pub const OWN_ECHO: u8 = 4;
-
-pub const CLOCK_BACK: u8 = 5;
 
 pub const SHIFT_FULL: u8 = 6;
 

@@ -7,4 +7,5 @@ pub mod ReaderLaws
 pub mod WriterLaws
 pub mod FieldsLaws
 pub mod RoundTrip
+pub mod NeverClockBack
 pub mod Examples

@@ -3,7 +3,7 @@ use mathlib.Core.Path.{_≡_, sym, _∙_}
 use mathlib.Core.Bool.{false}
 use borrow.Author.Needs.{needs}
 use Rattle.request.specs.Operations.{badOperation}
-use Rattle.replica.proofs.InvokingLaws.{asked-operation, asked-clock, asked-full, asked-passes}
+use Rattle.replica.proofs.InvokingLaws.{asked-operation, asked-full, asked-passes}
 use Rattle.replica.proofs.entering.ask.Statement.{statement}
 use Rattle.replica.proofs.entering.ask.Tie as tie
 
@@ -11,19 +11,16 @@ bad-requires : tie.Need-bad-requires
 bad-requires c κs = search needs
 
 returns : tie.Need-returns
-returns c = asked-operation _ _ _ (sym (c .before .bad .ensures) ∙ c .if1 .taken)
+returns c = asked-operation _ _ (sym (c .before .bad .ensures) ∙ c .if1 .taken)
 
 operation-good : (c : tie.Else1) → badOperation (c .before .before .args .i .operation) ≡ false
 operation-good c = sym (c .before .bad .ensures) ∙ c .if1 .left
 
 returns-2 : tie.Need-returns-2
-returns-2 c = asked-clock _ _ _ (operation-good (c .before .before .before)) (c .if2 .taken)
+returns-2 c = asked-full _ _ (operation-good (c .before)) (c .if2 .taken)
 
 returns-3 : tie.Need-returns-3
-returns-3 c = asked-full _ _ _ (operation-good (c .before .before .before .before)) (c .before .if2 .left) (c .if3 .taken)
-
-returns-4 : tie.Need-returns-4
-returns-4 c = asked-passes _ _ _ (operation-good (c .before .before .before .before)) (c .before .if2 .left) (c .if3 .left)
+returns-3 c = asked-passes _ _ (operation-good (c .before)) (c .if2 .left)
 
 pub ask-spec : {M : Type 1} → statement M
-ask-spec = tie.close (tie.spec bad-requires returns returns-2 returns-3 returns-4)
+ask-spec = tie.close (tie.spec bad-requires returns returns-2 returns-3)

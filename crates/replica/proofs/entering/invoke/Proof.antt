@@ -15,9 +15,17 @@ use Rattle.replica.proofs.entering.invoke.Tie as tie
 
 -- ---- the places of the call
 
+-- where it is not refused, from where the reading is taken
+abbrev accepted : tie.After-at-least → tie.Else1
+accepted c = c .before .before
+
+-- where the reading is taken, from where the slot is known
+abbrev raised : tie.After-slot-of → tie.After-at-least
+raised c = c .before .before
+
 -- its start, from where the slot is known
 abbrev start : tie.After-slot-of → tie.Start
-start c = c .before .before .before .before .before
+start c = accepted (raised c) .before .before
 
 -- where the slot is known, from where the context is
 abbrev slotted : tie.After-context-for → tie.After-slot-of
@@ -25,7 +33,7 @@ slotted c = c .before .before .before .before .before
 
 -- where the context is known, from where the request's place is
 abbrev asked : tie.After-place → tie.After-context-for
-asked c = c .before .before .before .before .before .before .before
+asked c = c .before .before .before .before .before .before
 
 -- where the place is known, from where the tables are written
 abbrev placed : tie.After-known-with → tie.After-place
@@ -34,18 +42,19 @@ placed c = c .before .before .before .before
 -- ---- what is known there
 
 enters : (c : tie.After-context-for)
-    → let a = start (slotted c) .args in Enters (a .t1) (asRequest (a .t1) (a .i) (c .context-for .result))
+    → let slot = slotted c in
+    Enters (start slot .args .t1) (asRequest (start slot .args .t1) (raised slot .at-least .result) (c .context-for .result))
 enters c =
     let slot = slotted c in
-    let else = slot .before .before in
+    let else = accepted (raised slot) in
     let a = start slot in
     asked-enters (a .args .t1) (a .args .i) (a .pre) _ (else .before .ask .ensures) (else .if1 .left)
-    _ (slot .slot-of .ensures) _ (c .context-for .ensures)
+    _ (raised slot .at-least .ensures) _ (slot .slot-of .ensures) _ (c .context-for .ensures)
 
 slot-of-is : (c : tie.After-context-for) → IsSlot (slotted c .slot-of .result)
 slot-of-is c =
     let a = start (slotted c) in
-    omega (arith, slotted c .slot-of .ensures, slot-is (a .args .t1) (asRequest (a .args .t1) (a .args .i) _) (a .pre) (enters c))
+    omega (arith, slotted c .slot-of .ensures, slot-is (a .args .t1) (asRequest (a .args .t1) _ _) (a .pre) (enters c))
 
 -- ---- what the function needs
 
@@ -57,13 +66,17 @@ refused-requires c κs = search needs
 
 returns : tie.Need-returns
 returns c =
-    let a = c .before .before .before .before in
+    let a = c .before .before .before in
     kept-asked (a .args .t1) (a .args .i) (a .pre) _ (c .before .before .ask .ensures) _ (c .before .if1 .taken) (c .refused .ensures)
+
+at-least-requires : tie.Need-at-least-requires
+at-least-requires c κs = search needs
 
 add-event : tie.Need-add-event
 add-event c =
-    let a = c .before .before .before in
-    omega (arith, events-left (a .args .t1) (a .args .i) (a .pre) _ (c .before .ask .ensures) (c .if1 .left))
+    let else = accepted c in
+    let a = else .before .before in
+    omega (arith, events-left (a .args .t1) (a .args .i) (a .pre) _ (else .before .ask .ensures) (else .if1 .left))
 
 slot-of-requires : tie.Need-slot-of-requires
 slot-of-requires c κs = search needs
@@ -84,7 +97,7 @@ body-of-requires c κs = search needs
 
 place-requires : tie.Need-place-requires
 place-requires c κs =
-    let a = start (slotted (c .before .before .before .before .before .before)) in
+    let a = start (slotted (c .before .before .before .before .before)) in
     tentative-asks (a .args .t1) (a .pre)
 
 join-requires : tie.Need-join-requires
@@ -111,7 +124,7 @@ insert-at-requires c κs =
     let context = asked place in
     let slot = slotted context in
     let a = start slot in
-    insertion-asks (a .args .t1) (asRequest (a .args .t1) (a .args .i) _) (a .pre) (enters context) _ _ (slot .slot-of .ensures)
+    insertion-asks (a .args .t1) (asRequest (a .args .t1) _ _) (a .pre) (enters context) _ _ (slot .slot-of .ensures)
     (place .place .ensures)
 
 add-p : tie.Need-add-p
@@ -132,20 +145,20 @@ spread-requires c κs = search needs
 
 returns-2 : tie.Need-returns-2
 returns-2 c =
-    let awaited = c .before in
+    let awaited = c .before .before in
     let adjusted = awaited .before .before in
     let inserted = adjusted .before .before .before .before in
     let known = inserted .before .before in
     let place = placed known in
-    let body = place .before .before .before .before .before in
+    let body = place .before .before .before .before in
     let request-is = body .before .request-for .ensures in
     let context = asked place in
     let slot = slotted context in
-    let else = slot .before .before in
+    let else = accepted (raised slot) in
     let a = start slot in
     kept-made (a .args .t1) (a .args .i) (a .pre) _ (else .before .ask .ensures) (else .if1 .left)
-    _ (slot .slot-of .ensures) _ (context .context-for .ensures) _ _ (awaited .join2 .ensures)
-    (entered-by (a .args .t1) (asRequest (a .args .t1) (a .args .i) _) (a .pre) (enters context) _ _ (slot .slot-of .ensures)
+    _ (raised slot .at-least .ensures) _ (slot .slot-of .ensures) _ (context .context-for .ensures) _ _ (awaited .join2 .ensures)
+    (entered-by (a .args .t1) (asRequest (a .args .t1) _ _) (a .pre) (enters context) _ _ (slot .slot-of .ensures)
     (place .place .ensures) _ (inserted .insert-at .ensures) _ _ _ _ (adjusted .common-start .ensures)
     (known .before .before .join .ensures) (known .known-with .ensures)
     (body .body-of .ensures ∙ ap (λ (x : Request). bodyOf x) request-is) _ _ _)
@@ -158,6 +171,7 @@ invoke-spec =
     ask-requires
     refused-requires
     returns
+    at-least-requires
     add-event
     slot-of-requires
     cast-s
