@@ -7,8 +7,8 @@ use lib.ListN.{length, drop, length-append}
 use lib.Seq.{length-take-le}
 use Rattle.io.specs.Counts.{Counts}
 use borrow.Author.Needs.{needs}
-use Rattle.cases.proofs.read_part.Statement.{statement}
-use Rattle.cases.proofs.read_part.Tie as tie
+use Rattle.framed.proofs.read_part.Statement.{statement}
+use Rattle.framed.proofs.read_part.Tie as tie
 
 counts-front : (n : ℕ) (xs ys : List ℕ) → n ≤ length xs → Counts n (xs ++ ys)
 counts-front n xs ys h =
