@@ -1,8 +1,11 @@
 //! Lists of calls as bytes and their answers as bytes, as docs/CALLS.md lays
-//! them out.
+//! them out, and the answers in lines.
+
+use std::fmt::Write;
 
 use crate::panel::{Answer, Panel};
 use crate::random::Call;
+use crate::refusal::ACCEPTED;
 use crate::request::*;
 use crate::wire::{self, Message, Parsed};
 
@@ -30,12 +33,17 @@ pub fn run(bytes: &[u8], out: &mut [u8]) -> usize {
     if out.len() / ANSWER_SIZE < calls {
         return 0;
     }
-    let byte = |at: usize| bytes.get(at).copied().unwrap_or(0);
-    let (_, mut panel) = Panel::fresh(byte(0), byte(1));
+    let mut panel = fresh(bytes);
     for (call, answer) in each(bytes).zip(out.chunks_exact_mut(ANSWER_SIZE)) {
         put_answer(&carry(&mut panel, &decode(call)), answer);
     }
     calls
+}
+
+/// The panel that the first two bytes ask for.
+fn fresh(bytes: &[u8]) -> Panel {
+    let byte = |at: usize| bytes.get(at).copied().unwrap_or(0);
+    Panel::fresh(byte(0), byte(1)).1
 }
 
 /// The bytes of each call.
@@ -111,6 +119,76 @@ pub fn append(bytes: &mut Vec<u8>, call: &Call) -> bool {
     }
     bytes.extend_from_slice(&part);
     true
+}
+
+/// A list of calls and the panel that they lead to.
+pub struct List {
+    panel: Panel,
+    bytes: Vec<u8>,
+}
+
+impl List {
+    pub fn new(panels: u8, own: u8) -> List {
+        List { panel: Panel::fresh(panels, own).1, bytes: vec![panels, own] }
+    }
+
+    /// Adds a call, unless no bytes stand for it.
+    pub fn add(&mut self, call: &Call) {
+        if append(&mut self.bytes, call) {
+            carry(&mut self.panel, call);
+        }
+    }
+
+    /// Adds single steps until the panel is idle.
+    pub fn add_due_steps(&mut self) {
+        while self.panel.owed() > 0 {
+            let undo_due = !self.panel.to_be_rolled_back_reversed().is_empty();
+            self.add(if undo_due { &Call::Undo } else { &Call::CarryOut });
+        }
+    }
+
+    pub fn bytes(&self) -> &[u8] {
+        &self.bytes
+    }
+
+    pub fn into_bytes(self) -> Vec<u8> {
+        self.bytes
+    }
+}
+
+/// The answers as the program `callcases` prints them: a line for each with
+/// refusal, mark, panel, event and response, and behind them the bytes of the
+/// request that an accepted make spreads.
+pub fn printed(bytes: &[u8]) -> Vec<u8> {
+    let mut panel = fresh(bytes);
+    let mut text = String::new();
+    for call in each(bytes).map(decode) {
+        let answer = carry(&mut panel, &call);
+        let Answer { refusal, mark, number, response, .. } = answer;
+        let _ = write!(text, "{refusal} {mark} {} {} {response}", number.panel.0, number.event.0);
+        if matches!(call, Call::Make(..)) && refusal == ACCEPTED {
+            print_message(&mut text, &Message::Request(answer.request));
+        }
+        text.push('\n');
+    }
+    text.into_bytes()
+}
+
+fn print_message(text: &mut String, message: &Message) {
+    let mut part = [0; wire::STRONG_LENGTH];
+    let (_, length) = wire::write(message, &mut part);
+    for byte in &part[..length] {
+        let _ = write!(text, " {byte}");
+    }
+}
+
+/// Whether these bytes answer a make and its request has another clock than
+/// the call asked for.
+pub fn is_raised(call: &[u8], answer: &[u8]) -> bool {
+    match decode(call) {
+        Call::Make(_, _, asked) if answer[0] == ACCEPTED => answer_in(answer).0.request.clock != asked,
+        _ => false,
+    }
 }
 
 fn put_answer(answer: &Answer, out: &mut [u8]) {

@@ -1,10 +1,9 @@
 //! Seeded cases for comparisons, most of them sound and some damaged.
 
 use crate::board::MOST_PRINTED;
-use crate::calls::{self, ANSWER_SIZE, CALL_SIZE};
+use crate::calls::{self, List, ANSWER_SIZE, CALL_SIZE};
 use crate::difference::{Case, Function};
 use crate::fields::{self, FIELDS_SIZE};
-use crate::panel::Panel;
 use crate::random::{bus_run, message, printout_input, shop, Call, Random, Shift};
 use crate::request::*;
 use crate::wire::{self, Parsed};
@@ -28,24 +27,24 @@ pub fn list_of_calls(seed: u64, length: usize) -> Case {
 fn shift(random: &mut Random, length: usize) -> Vec<u8> {
     let mut shift = Shift::new(random.word());
     let (panels, own) = shift.shop();
-    let mut list = List { panel: Panel::fresh(panels, own).1, bytes: vec![panels, own] };
+    let mut list = List::new(panels, own);
     let wide = random.one_of(&[0, 0, 0, 5, 30]);
-    while calls::count(&list.bytes) < length {
+    while calls::count(list.bytes()) < length {
         match shift.next_call() {
-            Call::RunDue if random.percent(50) => list.do_due_steps(),
+            Call::RunDue if random.percent(50) => list.add_due_steps(),
             Call::Hear(request) if request.strong && random.percent(wide) => {
-                list.add(Call::Hear(waiting_for_several(random, panels, request)));
+                list.add(&Call::Hear(waiting_for_several(random, panels, request)));
             }
-            call => list.add(call),
+            call => list.add(&call),
         }
     }
-    list.do_due_steps();
+    list.add_due_steps();
     for _ in 0..PROBES {
         let read = Operation::new(READ, random.below(REGISTERS) as u8, 0, 0);
-        list.add(Call::Make(read, false, Clock(u32::MAX)));
-        list.do_due_steps();
+        list.add(&Call::Make(read, false, Clock(u32::MAX)));
+        list.add_due_steps();
     }
-    list.bytes
+    list.into_bytes()
 }
 
 /// A strong request whose context names a few numbers more.
@@ -57,27 +56,6 @@ fn waiting_for_several(random: &mut Random, panels: u8, mut request: Request) ->
         }
     }
     request
-}
-
-/// A list of calls and the panel that they lead to.
-struct List {
-    panel: Panel,
-    bytes: Vec<u8>,
-}
-
-impl List {
-    fn add(&mut self, call: Call) {
-        if calls::append(&mut self.bytes, &call) {
-            calls::carry(&mut self.panel, &call);
-        }
-    }
-
-    fn do_due_steps(&mut self) {
-        while self.panel.owed() > 0 {
-            let undo_due = !self.panel.to_be_rolled_back_reversed().is_empty();
-            self.add(if undo_due { Call::Undo } else { Call::CarryOut });
-        }
-    }
 }
 
 /// Bytes that mean nothing, with tags that mean something at times.

@@ -76,6 +76,7 @@ pub struct Panel {
     registers: [u32; REGISTERS],
 
     own_events: u8,
+    /// The reading of the last own request, 0 before the first.
     own_clock: Clock,
     /// Own requests awaiting a reply, bit e−1 for event e.
     awaiting: u64,
@@ -128,22 +129,22 @@ impl Panel {
 
     // The calls that change the panel.
 
+    /// A clock below the last own request's is raised to it, so that own
+    /// requests stand in clock order as they do in event order.
     pub fn make(&mut self, operation: Operation, strong: bool, clock: Clock) -> Answer {
         if operation.is_bad() {
             return Answer::refused(BAD_OPERATION);
         }
-        if clock < self.own_clock {
-            return Answer::refused(CLOCK_BACK);
-        }
         if self.own_events as usize == EVENTS {
             return Answer::refused(SHIFT_FULL);
         }
+        let raised = clock.max(self.own_clock);
         self.own_events += 1;
-        self.own_clock = clock;
+        self.own_clock = raised;
         let number = Number::new(self.own, self.own_events);
-        let place = self.place_in_clock_order(clock, number.slot());
+        let place = self.place_in_clock_order(raised, number.slot());
         let context = if strong { self.context_at(place) } else { NumberSet::EMPTY };
-        let request = Request { number, clock, operation, strong, context };
+        let request = Request { number, clock: raised, operation, strong, context };
         self.awaiting |= 1 << (self.own_events - 1);
         self.take_in(&request, place);
         Answer { request, ..Answer::default() }

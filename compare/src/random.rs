@@ -3,7 +3,8 @@
 //! A shift of calls follows habits drawn at its start, so that one shift is
 //! full of equal clocks and another of waiting contexts. The generator drives
 //! a panel of its own to know what would be interesting next: a due step, the
-//! wrong step, a settlement that is ready or one that waits.
+//! wrong step, a settlement that is ready or one that waits, a clock that is
+//! put back.
 
 use crate::panel::Panel;
 use crate::printout::MOST_BYTES;
@@ -19,6 +20,11 @@ impl Random {
         mixed = (mixed ^ mixed >> 30).wrapping_mul(0xbf58_476d_1ce4_e5b9);
         mixed = (mixed ^ mixed >> 27).wrapping_mul(0x94d0_49bb_1331_11eb);
         Random((mixed ^ mixed >> 31) | 1)
+    }
+
+    /// A stream of its own from here on, which leaves this one as it is.
+    fn fork(&self) -> Random {
+        Random::new(self.0)
     }
 
     /// Xorshift with a multiplied answer; the low bits of the bare state are
@@ -63,8 +69,9 @@ pub enum Call {
     RequestAt(usize),
 }
 
-#[derive(Clone, Copy)]
-enum Clocks {
+/// How the clocks of a shift are drawn.
+#[derive(Clone, Copy, Debug, PartialEq, Eq)]
+pub enum Clocks {
     /// A handful of readings, so that most requests tie.
     Tied,
     /// Rising with the shift, with some coming late.
@@ -90,6 +97,9 @@ struct Habits {
     waiting: usize,
     /// New numbers that skip events.
     skips: usize,
+    /// Own clocks that are put back behind the last own reading. It is drawn
+    /// from a stream of its own, so that lists without makes stay as they are.
+    back: usize,
 }
 
 impl Habits {
@@ -112,6 +122,7 @@ impl Habits {
             damage: random.one_of(&[0, 3, 10, 30]),
             waiting: random.one_of(&[0, 10, 40]),
             skips: random.one_of(&[0, 10, 100]),
+            back: random.fork().one_of(&[0, 10, 35, 60, 90]),
         }
     }
 }
@@ -124,6 +135,8 @@ pub struct Shift {
     own: u8,
     shadow: Panel,
     hour: u32,
+    /// The reading of the last own request.
+    last_own: Option<Clock>,
 }
 
 impl Shift {
@@ -137,12 +150,16 @@ impl Shift {
     fn of_shop(mut random: Random, panels: u8, own: u8) -> Shift {
         let habits = Habits::draw(&mut random);
         let (_, shadow) = Panel::fresh(panels, own);
-        Shift { random, habits, panels, own, shadow, hour: 0 }
+        Shift { random, habits, panels, own, shadow, hour: 0, last_own: None }
     }
 
     /// What to call fresh with.
     pub fn shop(&self) -> (u8, u8) {
         (self.panels, self.own)
+    }
+
+    pub fn clocks(&self) -> Clocks {
+        self.habits.clocks
     }
 
     pub fn next_call(&mut self) -> Call {
@@ -187,7 +204,12 @@ impl Shift {
 
     fn follow(&mut self, call: &Call) {
         match call {
-            Call::Make(operation, strong, clock) => drop(self.shadow.make(*operation, *strong, *clock)),
+            Call::Make(operation, strong, clock) => {
+                let answer = self.shadow.make(*operation, *strong, *clock);
+                if answer.refusal == ACCEPTED {
+                    self.last_own = Some(answer.request.clock);
+                }
+            }
             Call::Hear(request) => drop(self.shadow.hear(request)),
             Call::Settle(number) => drop(self.shadow.settle(*number)),
             Call::Undo => drop(self.shadow.undo()),
@@ -218,20 +240,40 @@ impl Shift {
     fn make(&mut self) -> Call {
         let operation = self.operation();
         let strong = self.random.percent(self.habits.strong);
-        let mut clock = self.clock();
-        let last = self.last_own_clock();
-        if clock < last && !self.random.percent(5) {
-            clock = Clock(last.0.saturating_add(self.random.below(2) as u32));
-        }
+        let clock = self.made_clock();
         Call::Make(operation, strong, clock)
     }
 
-    fn last_own_clock(&self) -> Clock {
-        let slots = self.shadow.committed().iter().chain(self.shadow.tentative());
-        let own = slots
-            .map(|&slot| self.shadow.request(slot as usize))
-            .filter(|request| request.number.panel.0 == self.own);
-        own.map(|request| request.clock).max().unwrap_or_default()
+    /// The clock that a request is made with: put back, or at least the last
+    /// own reading.
+    fn made_clock(&mut self) -> Clock {
+        let Some(last) = self.last_own else { return self.clock() };
+        if self.random.percent(self.habits.back) {
+            return self.clock_put_back(last);
+        }
+        let clock = if self.random.percent(20) { self.held_clock() } else { self.clock() };
+        if clock < last {
+            Clock(last.0.saturating_add(self.random.below(2) as u32))
+        } else {
+            clock
+        }
+    }
+
+    /// A reading just below the last own one or far below it, or the reading
+    /// of a request held, which may also lie above.
+    fn clock_put_back(&mut self, last: Clock) -> Clock {
+        match self.random.below(6) {
+            0 | 1 => Clock(last.0.saturating_sub(1)),
+            2 | 3 => Clock(last.0.saturating_sub(2 + self.random.below(8) as u32)),
+            4 => Clock(self.random.below(last.0 as usize + 1) as u32),
+            _ => self.held_clock(),
+        }
+    }
+
+    /// The reading of one of the requests held, for an own one to tie with.
+    fn held_clock(&mut self) -> Clock {
+        let held = self.shadow.accepted_requests();
+        self.shadow.request_at(1 + self.random.below(held)).request.clock
     }
 
     fn operation(&mut self) -> Operation {
@@ -313,11 +355,22 @@ impl Shift {
     /// is none, and it is an echo.
     fn good_request(&mut self) -> Request {
         let number = self.new_number();
-        let clock = self.clock();
+        let clock = self.heard_clock();
         let operation = self.operation();
         let strong = self.random.percent(self.habits.strong);
         let context = if strong { self.context(number) } else { NumberSet::EMPTY };
         Request { number, clock, operation, strong, context }
+    }
+
+    /// The clock of a request of another panel, at times the last own reading
+    /// or one beside it. Without an own request nothing more is drawn for it.
+    fn heard_clock(&mut self) -> Clock {
+        match self.last_own {
+            Some(last) if self.random.percent(15) => {
+                Clock(last.0.saturating_sub(1).saturating_add(self.random.below(3) as u32))
+            }
+            _ => self.clock(),
+        }
     }
 
     fn new_number(&mut self) -> Number {
@@ -610,6 +663,11 @@ impl Shop {
             self.unsettled.push(answer.request.number);
         }
         true
+    }
+
+    /// The time master puts the clocks of all panels back.
+    pub fn put_back(&mut self, by: u32) {
+        self.hour = self.hour.saturating_sub(by);
     }
 
     /// Puts a made strong request next in the order of settlements.

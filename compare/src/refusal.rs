@@ -1,4 +1,5 @@
-//! The refusal words of document 01 by their numbers.
+//! The refusal words of document 01 by their numbers. No call meets 5 any more
+//! since document 02's request (b).
 
 pub const ACCEPTED: u8 = 0;
 pub const BAD_SHOP: u8 = 1;

@@ -141,7 +141,8 @@ impl Shift {
         }
     }
 
-    /// The own requests are made first: a panel's own clock never goes back.
+    /// The own requests are made first and with rising clocks: a lower one
+    /// would be raised to the last.
     fn make(&self, place: usize) -> Call {
         let clock = if self.falling { self.heard + place } else { place };
         Call::Make(Shift::operation(place), self.strong(place), Clock(clock as u32))

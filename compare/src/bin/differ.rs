@@ -5,7 +5,7 @@ use std::path::Path;
 use std::{env, fs, io, process};
 
 use mizzencord_compare::board::{Board, Handwritten, MOST_PRINTED};
-use mizzencord_compare::calls::ANSWER_SIZE;
+use mizzencord_compare::calls::{self, ANSWER_SIZE};
 use mizzencord_compare::cases;
 use mizzencord_compare::difference::{Case, Function, Outcome};
 use mizzencord_compare::progress::{progress, progress_ends};
@@ -30,6 +30,7 @@ struct Counts {
     lists: usize,
     calls: usize,
     refusals: [usize; REFUSALS],
+    raised: usize,
     printouts: usize,
     printed: usize,
     readings: Tally,
@@ -81,8 +82,10 @@ impl Comparison {
             Function::Run => {
                 counts.lists += 1;
                 counts.calls += result;
-                for answer in self.proved.out.chunks_exact(ANSWER_SIZE).take(result) {
+                let answers = self.proved.out.chunks_exact(ANSWER_SIZE).take(result);
+                for (call, answer) in calls::each(&case.bytes).zip(answers) {
                     counts.refusals[answer[0] as usize] += 1;
+                    counts.raised += calls::is_raised(call, answer) as usize;
                 }
             }
             Function::Print => {
@@ -175,6 +178,7 @@ fn summary(counts: &Counts) {
         counts.lists,
         by_number(counts.refusals[0], &counts.refusals)
     );
+    println!("requests made whose clock was raised: {}", counts.raised);
     println!("printouts: {} with {} bytes", counts.printouts, counts.printed);
     for (name, tally) in [("read", &counts.readings), ("written", &counts.writings)] {
         println!(

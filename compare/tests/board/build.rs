@@ -1,4 +1,4 @@
-//! Short ways to write requests down in the tests.
+//! Short ways to write requests down in the tests, and to look at those held.
 
 use mizzencord_compare::panel::Panel;
 use mizzencord_compare::request::*;
@@ -53,6 +53,14 @@ pub fn panel(panels: u8, own: u8) -> Panel {
 
 pub fn order(panel: &Panel) -> Vec<(u8, u8)> {
     (1..=panel.accepted_requests()).map(|place| pair(panel.request_at(place).request.number)).collect()
+}
+
+/// The readings of a panel's requests that are held, by event.
+pub fn readings(holder: &Panel, maker: u8) -> Vec<Clock> {
+    let held = (1..=holder.accepted_requests()).map(|place| holder.request_at(place).request);
+    let mut made: Vec<Request> = held.filter(|request| request.number.panel.0 == maker).collect();
+    made.sort_by_key(|request| request.number.event);
+    made.iter().map(|request| request.clock).collect()
 }
 
 pub fn pair(number: Number) -> (u8, u8) {

@@ -10,6 +10,8 @@ use mizzencord_compare::random::Call;
 use mizzencord_compare::refusal::{BAD_CONTEXT, CUT_SHORT, NO_ROOM};
 use mizzencord_compare::request::*;
 
+use crate::naive;
+
 /// Shows a stable reply as a tentative one, and writes a byte too many.
 struct Faulty;
 
@@ -103,6 +105,46 @@ fn calls_and_answers_are_laid_out() {
     assert_eq!(out[90..98], [0, 1, 2, 1, 0, 0, 0, 0]);
     assert_eq!(out[98..116], [18, 0, 1, 0, 0, 0, 0, 0, 0, 0, 0, 0, 0, 0, 0, 0, 0, 0]);
     assert_eq!(out[180], 7);
+}
+
+/// The lines of a list of calls, worked out by hand.
+#[test]
+fn answers_are_printed_in_lines() {
+    let mut bytes = vec![3, 2];
+    let made = Call::Make(Operation::new(SET, 4, 0, 0x0102), false, Clock(9));
+    let raised = Call::Make(Operation::new(CLAIM, 0, 0, 7), true, Clock(8));
+    let bad = Call::Make(Operation::new(CLAIM, 0, 0, 0), true, Clock(8));
+    let settled = Call::Settle(Number::new(2, 2));
+    for call in [made, raised, bad, Call::CarryOut, Call::CarryOut, settled, Call::Undo, Call::RunDue] {
+        assert!(calls::append(&mut bytes, &call));
+    }
+    let context = format!("{}1{}", "0 ".repeat(16), " 0".repeat(47));
+    let lines = format!(
+        "0 0 0 0 0 18 0 1 0 2 1 9 0 0 0 2 4 0 0 2 1 0 0\n\
+         0 0 0 0 0 82 0 2 0 2 2 9 0 0 0 4 0 0 0 7 0 0 0 {context}\n\
+         3 0 0 0 0\n0 1 2 1 0\n0 2 2 2 7\n0 3 0 0 7\n13 0 0 0 0\n0 0 0 0 0\n"
+    );
+    assert_eq!(String::from_utf8(calls::printed(&bytes)).unwrap(), lines);
+    assert_eq!(naive::answers(&bytes), lines);
+    for without_calls in [&[][..], &[3], &[9], &[3, 2], &bytes[..84]] {
+        assert_eq!(calls::printed(without_calls), []);
+        assert_eq!(naive::answers(without_calls), "");
+    }
+}
+
+#[test]
+fn a_raised_clock_shows_in_the_answer() {
+    let mut bytes = vec![1, 0];
+    for (amount, clock) in [(1, 20), (1, 10), (0, 10), (1, 20), (1, 21)] {
+        let operation = Operation::new(CLAIM, 0, 0, amount);
+        assert!(calls::append(&mut bytes, &Call::Make(operation, true, Clock(clock))));
+    }
+    assert!(calls::append(&mut bytes, &Call::CarryOut));
+    let mut out = [0; 6 * ANSWER_SIZE];
+    assert_eq!(Handwritten.run(&bytes, &mut out), 6);
+    let answers = calls::each(&bytes).zip(out.chunks_exact(ANSWER_SIZE));
+    let raised: Vec<bool> = answers.map(|(call, answer)| calls::is_raised(call, answer)).collect();
+    assert_eq!(raised, [false, true, false, false, false, false]);
 }
 
 #[test]

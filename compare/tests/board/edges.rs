@@ -1,4 +1,4 @@
-//! Document 01's cases at the edges, in its order.
+//! Document 01's cases at the edges, in its order, one of them amended.
 
 use mizzencord_compare::panel::Panel;
 use mizzencord_compare::request::*;
@@ -74,19 +74,15 @@ fn equal_clocks() {
     assert_eq!(order(&panel), [(0, 8), (0, 9), (0, 10), (1, 1)]);
 }
 
+/// The case that document 02's request (b) amends.
 #[test]
 fn own_clock() {
     let mut panel = panel(2, 1);
-    assert_eq!(panel.make(set(0, 1), false, Clock(9)).refusal, 0);
-    assert_eq!(panel.make(set(0, 1), false, Clock(9)).refusal, 0);
-    assert_eq!(panel.make(set(0, 1), false, Clock(8)).refusal, 5);
-    assert_eq!(panel.make(set(0, 1), false, Clock(9)).request.number, Number::new(1, 3));
-    // A refused request moves no clock.
-    assert_eq!(panel.make(set(64, 1), false, Clock(90)).refusal, 3);
-    assert_eq!(panel.make(set(0, 1), false, Clock(9)).refusal, 0);
-    // Nor does a heard one.
-    assert_eq!(panel.hear(&weak(0, 1, 70, set(0, 1))).refusal, 0);
-    assert_eq!(panel.make(set(0, 1), false, Clock(10)).refusal, 0);
+    for (event, clock) in [(1, 9), (2, 9), (3, 8)] {
+        let answer = panel.make(set(0, 1), false, Clock(clock));
+        assert_eq!((answer.refusal, answer.request), (0, weak(1, event, 9, set(0, 1))));
+    }
+    assert_eq!(order(&panel), [(1, 1), (1, 2), (1, 3)]);
 }
 
 #[test]

@@ -6,6 +6,7 @@ mod edges;
 mod examples;
 mod faults;
 mod naive;
+mod own_clocks;
 mod random_bytes;
 mod random_calls;
 mod refusals;

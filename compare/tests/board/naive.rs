@@ -1,8 +1,11 @@
-//! Algorithm 1 with document 01's refusals, as literally as it goes: lists are
-//! vectors of whole requests and every value comes from a replay on a zero
-//! board. There is no undo log and no saved register.
+//! Algorithm 1 with document 01's refusals and document 02's request (b), as
+//! literally as it goes: lists are vectors of whole requests and every value
+//! comes from a replay on a zero board. There is no undo log, no saved register
+//! and no count of own requests.
 
+use mizzencord_compare::calls;
 use mizzencord_compare::panel::Answer;
+use mizzencord_compare::random::Call;
 use mizzencord_compare::request::{Clock, Number, NumberSet, Operation, Request};
 use mizzencord_compare::wire::{parse, Message, Parsed};
 
@@ -18,7 +21,6 @@ pub struct Naive {
     pub to_be_rolled_back: Vec<Request>,
     pub causal_ctx: Vec<(u8, u8)>,
     pub awaiting: Vec<(Request, Option<u32>)>,
-    own_clocks: Vec<u32>,
 }
 
 fn before(a: &Request, b: &Request) -> bool {
@@ -114,7 +116,6 @@ impl Naive {
             to_be_rolled_back: vec![],
             causal_ctx: vec![],
             awaiting: vec![],
-            own_clocks: vec![],
         };
         (if good { 0 } else { 1 }, naive)
     }
@@ -133,18 +134,23 @@ impl Naive {
         self.to_be_rolled_back.len() + self.to_be_executed.len()
     }
 
+    /// The last request of the own panel, settled or not.
+    pub fn last_own(&self) -> Option<Request> {
+        let own = self.standing_order().into_iter().filter(|x| x.number.panel.0 == self.own);
+        own.max_by_key(|x| x.number.event.0)
+    }
+
     pub fn make(&mut self, operation: Operation, strong: bool, clock: Clock) -> Answer {
         if !good(&operation) {
             return refused(3);
         }
-        if self.own_clocks.last().is_some_and(|last| clock.0 < *last) {
-            return refused(5);
-        }
-        if self.own_clocks.len() == 64 {
-            return refused(6);
-        }
-        self.own_clocks.push(clock.0);
-        let number = Number::new(self.own, self.own_clocks.len() as u8);
+        let (event, clock) = match self.last_own() {
+            None => (1, clock),
+            Some(last) if last.number.event.0 == 64 => return refused(6),
+            Some(last) if clock.0 < last.clock.0 => (last.number.event.0 + 1, last.clock),
+            Some(last) => (last.number.event.0 + 1, clock),
+        };
+        let number = Number::new(self.own, event);
         let mut r = Request { number, clock, operation, strong, context: NumberSet::EMPTY };
         if strong {
             let behind: Vec<_> =
@@ -279,6 +285,22 @@ impl Naive {
         }
     }
 
+    /// A call that bytes stand for.
+    fn call(&mut self, call: &Call) -> Answer {
+        match call {
+            Call::Make(operation, strong, clock) => self.make(*operation, *strong, *clock),
+            Call::Hear(request) => self.hear(request),
+            Call::Settle(number) => self.settle(*number),
+            Call::Undo => self.undo(),
+            Call::CarryOut => self.carry_out(),
+            Call::RunDue => {
+                let (undone, carried) = self.run_due();
+                Answer { response: (undone + carried) as u32, ..Answer::default() }
+            }
+            Call::Register(_) | Call::RequestAt(_) => unreachable!("no bytes stand for it"),
+        }
+    }
+
     pub fn run_due(&mut self) -> (usize, usize) {
         let (mut undone, mut carried) = (0, 0);
         while self.undo().refusal == 0 {
@@ -333,4 +355,38 @@ pub fn printout(input: &[u8]) -> String {
         }
     }
     text
+}
+
+/// The answers to a list of calls in lines, from the naive panel. Reading the
+/// calls alone is shared.
+pub fn answers(bytes: &[u8]) -> String {
+    let (_, mut panel) = match bytes {
+        [] => Naive::fresh(0, 0),
+        [panels] => Naive::fresh(*panels, 0),
+        [panels, own, ..] => Naive::fresh(*panels, *own),
+    };
+    let mut text = String::new();
+    for call in calls::each(bytes).map(calls::decode) {
+        let answer = panel.call(&call);
+        let (p, e) = pair(answer.number);
+        let mut words = vec![answer.refusal as u32, answer.mark as u32, p as u32, e as u32, answer.response];
+        if answer.request.number.event.0 != 0 {
+            words.extend(message_bytes(&answer.request).into_iter().map(u32::from));
+        }
+        let words: Vec<String> = words.iter().map(u32::to_string).collect();
+        text += &(words.join(" ") + "\n");
+    }
+    text
+}
+
+fn message_bytes(r: &Request) -> Vec<u8> {
+    let (length, kind) = if r.strong { (82, 2) } else { (18, 1) };
+    let mut bytes = vec![length, 0, kind, 0, r.number.panel.0, r.number.event.0];
+    bytes.extend(r.clock.0.to_le_bytes());
+    bytes.extend([r.operation.code, r.operation.r, r.operation.q, 0]);
+    bytes.extend(r.operation.amount.to_le_bytes());
+    if r.strong {
+        bytes.extend(r.context.0.iter().flat_map(|word| word.to_le_bytes()));
+    }
+    bytes
 }

@@ -16,8 +16,10 @@ fn make() {
         panel.make(read(0), false, Clock(5));
     }
     assert_eq!(panel.make(set(64, 0), false, Clock(4)), refused(3));
-    assert_eq!(panel.make(set(63, 0), false, Clock(4)), refused(5));
-    assert_eq!(panel.make(set(63, 0), true, Clock(5)), refused(6));
+    assert_eq!(panel.make(set(64, 0), true, Clock(5)), refused(3));
+    for clock in [0, 4, 5, 6, u32::MAX] {
+        assert_eq!(panel.make(set(63, 0), true, Clock(clock)), refused(6));
+    }
 }
 
 #[test]

@@ -1,4 +1,5 @@
-//! Whole shops whose panels hear the same things at different times.
+//! Whole shops whose panels hear the same things at different times and whose
+//! clocks are put back at times.
 
 use mizzencord_compare::random::{Random, Shop};
 
@@ -10,7 +11,7 @@ fn run(seed: u64, panels: u8, requests: usize) {
     let mut made = 0;
     while made < requests {
         let panel = random.below(panels as usize);
-        match random.below(8) {
+        match random.below(9) {
             0 | 1 => {
                 let (r, q) = (random.below(4) as u8, random.below(4) as u8);
                 let operation = if r == q { set(r, random.below(9) as u32) } else { shift(r, q, 2) };
@@ -19,6 +20,7 @@ fn run(seed: u64, panels: u8, requests: usize) {
             }
             2 => shop.order_settlement(),
             3 => shop.run_due(panel),
+            4 => shop.put_back(random.below(3) as u32),
             _ => drop(shop.deliver(panel)),
         }
     }
@@ -29,6 +31,7 @@ fn run(seed: u64, panels: u8, requests: usize) {
     }
     let first = &shop.panels()[0];
     assert_eq!(first.accepted_requests(), requests);
+    assert!((0..panels).all(|maker| readings(first, maker).is_sorted()));
     for panel in shop.panels() {
         assert_eq!(order(panel), order(first));
         assert_eq!(panel.committed().len(), first.committed().len());
