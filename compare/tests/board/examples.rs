@@ -3,6 +3,7 @@
 use std::fs;
 use std::path::Path;
 
+use mizzencord_compare::calls;
 use mizzencord_compare::printout::printout;
 
 use crate::{naive, worked};
@@ -39,19 +40,29 @@ fn stored_program_outputs_are_printed_again() {
 
 #[test]
 fn stored_cases_are_printed_again() {
-    let cases = stored_in("../crates/cases", "stdin");
+    cases_are_printed_again("../crates/cases", printout, naive::printout);
+}
+
+#[test]
+fn stored_lists_of_calls_are_answered_again() {
+    cases_are_printed_again("../crates/callcases", calls::printed, naive::answers);
+}
+
+/// Both must print the stored output of a folder's cases.
+fn cases_are_printed_again(folder: &str, output: fn(&[u8]) -> Vec<u8>, naive: fn(&[u8]) -> String) {
+    let cases = stored_in(folder, "stdin");
     let mut rest = cases.as_slice();
-    let mut output = Vec::new();
+    let mut printed = Vec::new();
     while !rest.is_empty() {
         let name = part(&mut rest);
         let input = part(&mut rest);
-        let text = printout(input);
-        assert!(naive::printout(input).as_bytes() == text, "{}", String::from_utf8_lossy(name));
-        output.extend_from_slice(name);
-        output.push(b'\n');
-        output.extend_from_slice(&text);
+        let text = output(input);
+        assert!(naive(input).as_bytes() == text, "{}", String::from_utf8_lossy(name));
+        printed.extend_from_slice(name);
+        printed.push(b'\n');
+        printed.extend_from_slice(&text);
     }
-    assert!(output == stored_in("../crates/cases", "stdout"));
+    assert!(printed == stored_in(folder, "stdout"));
 }
 
 /// The next part of the stored cases: its length in three bytes, and then it.

@@ -1,32 +1,42 @@
 //! Writes the stored inputs and expected outputs of the programs `cases`,
-//! `overlong` and `fullshift` into the folder of the crates.
+//! `overlong`, `fullshift` and `callcases` into the folder of the crates.
 
 use std::path::Path;
 use std::{env, fs, io};
 
+use mizzencord_compare::calls;
 use mizzencord_compare::panel::Panel;
 use mizzencord_compare::printout::{printout, MOST_BYTES};
 use mizzencord_compare::random::{append, awkward_input, bus_run, shop, Random};
 use mizzencord_compare::request::*;
 use mizzencord_compare::wire::{Message, SETTLEMENT_LENGTH, STRONG_LENGTH, WEAK_LENGTH};
 
+mod call_cases;
+
+/// The most bytes that the name of a case can have.
+const MOST_NAMED: usize = 4_096;
+
 fn main() -> io::Result<()> {
     let folder = env::args().nth(1).unwrap_or_else(|| "../crates".into());
     let folder = Path::new(&folder);
     let Cases(cases) = cases();
-    store(folder, "cases", &framed(&cases), &printed(&cases))?;
+    store(folder, "cases", &framed(&cases), &printed(&cases, printout))?;
     for (name, input) in [("overlong", overlong_input()), ("fullshift", full_shift())] {
         store(folder, name, &input, &printout(&input))?;
     }
-    Ok(())
+    let Cases(lists) = call_cases::cases();
+    store(folder, "callcases", &framed(&lists), &printed(&lists, calls::printed))
 }
 
 fn store(folder: &Path, name: &str, input: &[u8], output: &[u8]) -> io::Result<()> {
-    fs::write(folder.join(name).join("stdin"), input)?;
-    fs::write(folder.join(name).join("stdout"), output)
+    let folder = folder.join(name);
+    fs::create_dir_all(&folder)?;
+    fs::write(folder.join("stdin"), input)?;
+    fs::write(folder.join("stdout"), output)
 }
 
-/// An input of the printout program with a name that says what it is.
+/// An input of the printout program, or a list of calls, with a name that says
+/// what it is.
 struct Case {
     name: String,
     input: Vec<u8>,
@@ -48,6 +58,7 @@ impl Cases {
 fn framed(cases: &[Case]) -> Vec<u8> {
     let mut bytes = Vec::new();
     for case in cases {
+        assert!((1..=MOST_NAMED).contains(&case.name.len()) && case.input.len() <= MOST_BYTES);
         for part in [case.name.as_bytes(), &case.input] {
             bytes.extend_from_slice(&(part.len() as u32).to_le_bytes()[..3]);
             bytes.extend_from_slice(part);
@@ -56,16 +67,18 @@ fn framed(cases: &[Case]) -> Vec<u8> {
     bytes
 }
 
-fn printed(cases: &[Case]) -> Vec<u8> {
+/// Name and output of each case.
+fn printed(cases: &[Case], output: fn(&[u8]) -> Vec<u8>) -> Vec<u8> {
     let mut bytes = Vec::new();
     for case in cases {
         bytes.extend_from_slice(case.name.as_bytes());
         bytes.push(b'\n');
-        bytes.extend_from_slice(&printout(&case.input));
+        bytes.extend_from_slice(&output(&case.input));
     }
     bytes
 }
 
+/// The cases of the printout program.
 fn cases() -> Cases {
     let mut cases = Cases(Vec::new());
     shops(&mut cases);
