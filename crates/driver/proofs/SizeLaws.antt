@@ -6,14 +6,16 @@ use mathlib.Core.List.{List, [], _∷_}
 use native.Mathlib.Omega.{arith}
 use lib.ListN.{length, length-append, length-replicate}
 use lib.Seq.{sets, length-sets}
+use borrow.Author.Tests.{ltb-false}
 use Rattle.text.specs.Placed.{Room}
 use Rattle.request.specs.declared.Request.{Request}
 use Rattle.creek.specs.declared.Answer.{Answer}
 use Rattle.creek.specs.Calls.{Replica}
 use Rattle.wire.specs.Integers.{integerBytes}
 use Rattle.wire.specs.Message.{request, bytesOf, weakWithContext}
+use Rattle.driver.specs.declared.Ran.{Ran as RanOf}
 use Rattle.driver.specs.Encoding.{messageSize, noMessageBytes, messageBytes, headBytes, answerBytes, answerSize, answersBytes}
-use Rattle.driver.specs.Encoding.{callsAt, callSize, Entry, entriesFrom, callCount, entriesOf, after, answerTo}
+use Rattle.driver.specs.Encoding.{callsAt, callSize, Entry, entriesFrom, callCount, entriesOf, after, answerTo, tight, entriesRun, Ran}
 
 length-message : (x : Request) → length (messageBytes x) ≡ messageSize
 unfolding messageBytes
@@ -48,3 +50,12 @@ length-answers r (c ∷ cs) =
 pub answers-room : (r : Replica) (s out : List ℕ) → callCount s ≤ length out / answerSize → Room out 0 (answersBytes r (entriesOf s))
 unfolding entriesOf
 answers-room r s out h = record { fits = omega (arith, length-answers r (entriesOf s), length-calls s callsAt (callCount s)) }
+
+-- the answers of a run lie in the lent bytes
+pub ran-inside : {s out out′ : List ℕ} {r : RanOf} → Ran s out out′ r → answerSize * r .ran ≤ length out
+unfolding entriesRun entriesOf
+ran-inside {s} {out} h = omega (arith, h .ran, go (tight s out) refl)
+  where
+    go : (t : Bool) → tight s out ≡ t → answerSize * length (cond {A = List Entry} t [] (entriesOf s)) ≤ length out
+    go true e = omega arith
+    go false e = omega (arith, length-calls s callsAt (callCount s), ltb-false (length out / answerSize) (callCount s) e)

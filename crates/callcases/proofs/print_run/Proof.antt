@@ -1,0 +1,35 @@
+-- `print_run` meets its contract: the answers of the calls that were run lie inside the page.
+use native.Mathlib.Omega.{arith}
+use Rattle.driver.proofs.SizeLaws.{ran-inside}
+use borrow.Author.Needs.{needs}
+use Rattle.callcases.proofs.print_run.Statement.{statement}
+use Rattle.callcases.proofs.print_run.Tie as tie
+
+page-requires : tie.Need-page-requires
+page-requires c κs = search needs
+
+slice-aggregate-run : tie.Need-slice-aggregate-run
+slice-aggregate-run c = search needs
+
+run-requires : tie.Need-run-requires
+run-requires c κs = search needs
+
+slice-aggregate-print-answers : tie.Need-slice-aggregate-print-answers
+slice-aggregate-print-answers c = search needs
+
+print-answers-requires : tie.Need-print-answers-requires
+print-answers-requires c κs = let inside = ran-inside (c .before .before .run .ensures) in omega (arith, inside)
+
+returns : tie.Need-returns
+returns c = search needs
+
+pub print-run-spec : {M : Type 1} → statement M
+print-run-spec =
+    tie.close
+    (tie.spec
+    page-requires
+    slice-aggregate-run
+    run-requires
+    slice-aggregate-print-answers
+    print-answers-requires
+    returns)

@@ -1,0 +1,120 @@
+// Runs many lists of calls, each behind its name, and prints the answers. Standard input has the cases one after the other: a case is two
+// parts as `framed` reads them, its name and its list of calls, encoded as `docs/CALLS.md` says.
+//
+// A case prints its name on a line and then a line for each answer: refusal, mark, panel, event and response, and behind them the bytes
+// of the request to be spread where there is one.
+use driver::answers::ANSWER_SIZE;
+use driver::calls::MESSAGE_SIZE;
+use libc::STDOUT_FILENO;
+use wire::reader;
+ghost use Prim.Native.Nat.{_+_, _*_, _≤_, _<_};
+ghost use lib.ListN.{length};
+ghost use Rattle.driver.specs.Encoding.{answerSize};
+
+// A run ends after so many cases, where standard input does not end it sooner.
+const MOST_CASES: usize = 10000;
+
+// The most calls in 65,536 bytes, which is the longest list that is read.
+const MOST_CALLS: usize = 789;
+
+fn main() {
+    let mut left = MOST_CASES;
+    while left > 0 {
+        if !print_case() {
+            break;
+        }
+        left -= 1;
+    }
+}
+
+// Prints the next case, or returns false where there is none: it has no name.
+fn print_case() -> bool {
+    let mut name = io::buffer();
+    let named = framed::read_part(&mut name);
+    if named == 0 {
+        return false;
+    }
+    io::write_all(STDOUT_FILENO, &name[..named]);
+    end_line();
+    let mut calls = io::large_buffer();
+    let n = framed::read_part(&mut calls);
+    print_run(&calls[..n]);
+    true
+}
+
+// Runs a list of calls and prints its answers.
+fn print_run(calls: &[u8]) {
+    let mut answers = page();
+    let ran = driver::run(calls, &mut answers);
+    print_answers(&answers, ran.ran);
+}
+
+// Room for the answers to the longest list of calls.
+fn page() -> [u8; MOST_CALLS * ANSWER_SIZE] {
+    [0; MOST_CALLS * ANSWER_SIZE]
+}
+
+// Prints a line for each of the first `count` answers.
+fn print_answers(answers: &[u8], count: usize)
+    requires { ⌜ answerSize * count ≤ length (now answers) ⌝ }
+{
+    let mut at = 0;
+    let mut i = 0;
+    while i < count {
+        print_answer(answers, at);
+        at += ANSWER_SIZE;
+        i += 1;
+    }
+}
+
+// Prints the line of the answer at a place.
+fn print_answer(answers: &[u8], at: usize)
+    requires { ⌜ at + answerSize ≤ length (now answers) ⌝ }
+{
+    let low = wide(answers[at + 4]) + 256 * wide(answers[at + 5]);
+    let high = wide(answers[at + 6]) + 256 * wide(answers[at + 7]);
+    io::print_decimal(STDOUT_FILENO, wide(answers[at]));
+    print_bytes(answers, at + 1, 3);
+    print_field(low + 65536 * high);
+    print_spread(answers, at + (ANSWER_SIZE - MESSAGE_SIZE));
+    end_line();
+}
+
+// Prints the bytes of the message at a place where it spreads a request; the request of zeros, which has no event, is none.
+fn print_spread(answers: &[u8], at: usize)
+    requires { ⌜ at ≤ length (now answers) ⌝ }
+{
+    let reading = reader::read(answers, at);
+    if reading.message.request.number.event.0 != 0 {
+        print_bytes(answers, at, reading.taken);
+    }
+}
+
+// Prints so many bytes from a place on, each as a number with a space in front.
+fn print_bytes(bytes: &[u8], at: usize, count: usize)
+    requires { ⌜ at + count ≤ length (now bytes) ⌝ }
+{
+    let mut i = 0;
+    while i < count {
+        print_field(wide(bytes[at + i]));
+        i += 1;
+    }
+}
+
+// Prints a number with a space in front.
+fn print_field(n: u64) {
+    let space = [b' '];
+    io::write_all(STDOUT_FILENO, &space);
+    io::print_decimal(STDOUT_FILENO, n);
+}
+
+fn end_line() {
+    let end = [b'\n'];
+    io::write_all(STDOUT_FILENO, &end);
+}
+
+fn wide(byte: u8) -> u64
+    ensures { λ n. ⌜ n < 256 ⌝ }
+{
+    byte as u64
+}
