@@ -25,12 +25,12 @@ use Rattle.creek.specs.Faults.{strongHeard, twiceChanged, overtaken, fal
 use Rattle.creek.specs.Readings.{madeAndHeard, readings}
 
 pub edge-cases : map (λ (c : Case). c .computed) cases ≡ map (λ (c : Case). c .said) cases
-unfolding cases standing worked afterWorked nineNineEight onRegisters answers spreads eventsAndClocks numbers driven freshRefusal sameNumber badNumber sameOperation badOperation
-    sameWords sameContext allZero isEmpty namesFrom bit member join leave lackedWords difference subset before sameRequest
-    badContext offBoard added claimed movable moved exec response replayOn replay lastEvent lastClock entered atLeast made committing
-    committingFound invokeRefusal deliverRefusal commitRefusal registers adjusted undone undoRefusal executedNext executeRefusal
-    refusal accepted acceptedAnswer settlementReply stableReplyDue namedByRefusal answerOf acceptedAwaiting badShop fresh accept
-    step run settleDown registerShown
+unfolding cases standing worked afterWorked nineNineEight onRegisters answers spreads eventsAndClocks numbers driven freshRefusal
+    sameNumber badNumber sameOperation badOperation sameWords sameContext allZero isEmpty namesFrom bit member join leave
+    lackedWords difference subset before sameRequest badContext offBoard added claimed movable moved exec response replayOn replay
+    lastEvent lastClock entered atLeast made committing committingFound invokeRefusal deliverRefusal commitRefusal registers
+    adjusted undone undoRefusal executedNext executeRefusal refusal accepted acceptedAnswer settlementReply stableReplyDue
+    namedByRefusal answerOf acceptedAwaiting badShop fresh accept step run settleDown registerShown
 edge-cases = refl
 
 -- each reading chosen is what is computed

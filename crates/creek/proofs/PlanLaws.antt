@@ -24,8 +24,8 @@ use Rattle.sets.proofs.SetLaws.{member-join, member-empty, empty-set-empty, sub
 use Rattle.creek.specs.declared.Invocation.{Invocation}
 use Rattle.lists.specs.Lists.{one, count, keep, find, Ordered}
 use Rattle.creek.specs.Plan.{Plan, order, hasNumber, held, isOf, lastEvent, lastClock, knownWith, placed, entered, without}
-use Rattle.creek.specs.Plan.{nextNumber, requestWith, later, atLeast, made, named, stays, committing, committingFound, committingNumber, met}
-use Rattle.creek.specs.Plan.{invokeRefusal, heldRefusal, deliverRefusal, isCommitted, waits, foundRefusal, commitRefusal}
+use Rattle.creek.specs.Plan.{nextNumber, requestWith, later, atLeast, made, named, stays, committing, committingFound}
+use Rattle.creek.specs.Plan.{committingNumber, met, invokeRefusal, heldRefusal, deliverRefusal, isCommitted, waits, foundRefusal, commitRefusal}
 use Rattle.creek.specs.Sound.{isBad, ownBeyond, Held, unknown, knownAgainstStrength, SoundPlan}
 use Rattle.lists.proofs.ListLaws.{one-true, one-false, count-append, count-implies, count-never, count-weaker, counts-length}
 use Rattle.lists.proofs.ListLaws.{none-passes-count, count-keep, count-split, keep-found, find-none, found-passes, found-counts}

@@ -15,7 +15,8 @@ use Rattle.wire.specs.Integers.{integerBytes}
 use Rattle.wire.specs.Message.{request, bytesOf, weakWithContext}
 use Rattle.driver.specs.declared.Ran.{Ran as RanOf}
 use Rattle.driver.specs.Encoding.{messageSize, noMessageBytes, messageBytes, headBytes, answerBytes, answerSize, answersBytes}
-use Rattle.driver.specs.Encoding.{callsAt, callSize, Entry, entriesFrom, callCount, entriesOf, after, answerTo, tight, entriesRun, Ran}
+use Rattle.driver.specs.Encoding.{callsAt, callSize, Entry, entriesFrom, callCount, entriesOf, after, answerTo}
+use Rattle.driver.specs.Encoding.{tight, entriesRun, Ran}
 
 length-message : (x : Request) → length (messageBytes x) ≡ messageSize
 unfolding messageBytes

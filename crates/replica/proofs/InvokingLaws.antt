@@ -1,4 +1,4 @@
--- A request is made: its context by slots, and what an accepted invocation leads to.
+-- A request is made: its context by slots, the reading that it takes, its refusals, and what an accepted invocation leads to.
 use Prim.Native.Nat.{ℕ, suc, _+_, _≤_, _<_}
 use native.Mathlib.Omega.{arith}
 use native.Mathlib.Numerals.{add-one}

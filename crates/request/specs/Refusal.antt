@@ -1,4 +1,4 @@
--- The refusal numbers of document 01, by its words; and that a number is not the one that is never met any more.
+-- The refusal numbers of document 01, by its words; then that a number is not 5.
 use Prim.Native.Nat.{ℕ}
 use mathlib.Core.Path.{_≡_}
 

@@ -1,5 +1,5 @@
--- Refusal 5, clock back, is never met any more (document 02, request (b)): neither the reader nor the writer answers it, whatever the bytes,
--- the place, the message and the room. Proved as `never-clock-back` in `proofs/NeverClockBack`.
+-- Refusal 5, clock back, is never met any more (document 02, request (b)): neither the reader nor the writer answers it, whatever the
+-- bytes, the place, the message and the room. Proved as `never-clock-back` in `proofs/NeverClockBack`.
 use Prim.Native.Nat.{ℕ}
 use mathlib.Core.List.{List}
 use Rattle.request.specs.Refusal.{NotClockBack}
