@@ -4,18 +4,23 @@
 // A case prints its name on a line and then a line for each answer: refusal, mark, panel, event and response, and behind them the bytes
 // of the request to be spread where there is one.
 use driver::answers::ANSWER_SIZE;
+use driver::calls::CALL_SIZE;
+use driver::calls::CALLS_AT;
 use driver::calls::MESSAGE_SIZE;
 use libc::STDOUT_FILENO;
 use wire::reader;
 ghost use Prim.Native.Nat.{_+_, _*_, _≤_, _<_};
 ghost use lib.ListN.{length};
-ghost use Rattle.driver.specs.Encoding.{answerSize};
+ghost use Rattle.driver.specs.Encoding.{answerSize, responseWidth};
 
 // A run ends after so many cases, where standard input does not end it sooner.
 const MOST_CASES: usize = 10000;
 
 // The most calls in 65,536 bytes, which is the longest list that is read.
-const MOST_CALLS: usize = 789;
+const MOST_CALLS: usize = (65536 - CALLS_AT) / CALL_SIZE;
+
+// Where an answer's response stands, behind refusal, mark, panel and event.
+const RESPONSE_AT: usize = 4;
 
 fn main() {
     let mut left = MOST_CASES;
@@ -71,13 +76,20 @@ fn print_answers(answers: &[u8], count: usize)
 fn print_answer(answers: &[u8], at: usize)
     requires { ⌜ at + answerSize ≤ length (now answers) ⌝ }
 {
-    let low = wide(answers[at + 4]) + 256 * wide(answers[at + 5]);
-    let high = wide(answers[at + 6]) + 256 * wide(answers[at + 7]);
     io::print_decimal(STDOUT_FILENO, wide(answers[at]));
-    print_bytes(answers, at + 1, 3);
-    print_field(low + 65536 * high);
+    print_bytes(answers, at + 1, RESPONSE_AT - 1);
+    print_field(response_at(answers, at + RESPONSE_AT));
     print_spread(answers, at + (ANSWER_SIZE - MESSAGE_SIZE));
     end_line();
+}
+
+// The response in the four bytes from a place on, the lowest first.
+fn response_at(answers: &[u8], at: usize) -> u64
+    requires { ⌜ at + responseWidth ≤ length (now answers) ⌝ }
+{
+    let low = wide(answers[at]) + 256 * wide(answers[at + 1]);
+    let high = wide(answers[at + 2]) + 256 * wide(answers[at + 3]);
+    low + 65536 * high
 }
 
 // Prints the bytes of the message at a place where it spreads a request; the request of zeros, which has no event, is none.
