@@ -186,7 +186,7 @@ in-event-order panels own calls =
 
 -- ---- refusal 5
 
--- none of the numbers in a chain of tests is 5: the first, and what the later tests come to
+-- a chain of tests does not come to 5: neither its first number nor what the later tests come to is 5
 met-not : (t : Bool) {n rest : ℕ} → NotClockBack n → NotClockBack rest → NotClockBack (met t n rest)
 met-not t first later = either NotClockBack t (λ e. first) (λ e. later)
 
@@ -194,9 +194,9 @@ held-not : (f : Option Request) (x : Request) → NotClockBack (heldRefusal f x)
 held-not none x = λ e. omega arith
 held-not (some y) x = met-not (sameRequest y x) (λ e. omega arith) (λ e. omega arith)
 
-found-no-clock : (a : Plan) (n : Number) (f : Option Request) → NotClockBack (foundRefusal a n f)
-found-no-clock a n none = λ e. omega arith
-found-no-clock a n (some x) =
+lookup-not : (a : Plan) (n : Number) (f : Option Request) → NotClockBack (foundRefusal a n f)
+lookup-not a n none = λ e. omega arith
+lookup-not a n (some x) =
     met-not (not (x .strong)) (λ e. omega arith)
     (met-not (isCommitted a n) (λ e. omega arith) (met-not (waits a x) (λ e. omega arith) (λ e. omega arith)))
 
@@ -211,7 +211,7 @@ calls-not b (deliver x) =
     (met-not (badOperation (x .operation)) (λ e. omega arith)
     (met-not (badContext (b .plan .panels) x) (λ e. omega arith) (held-not (held (b .plan) (x .number)) x))))
 calls-not b (commit n) =
-    met-not (badNumber (b .plan .panels) n) (λ e. omega arith) (found-no-clock (b .plan) n (held (b .plan) n))
+    met-not (badNumber (b .plan .panels) n) (λ e. omega arith) (lookup-not (b .plan) n (held (b .plan) n))
 calls-not b undo = met-not (isNil (b .execution .rollback)) (λ e. omega arith) (λ e. omega arith)
 calls-not b execute =
     met-not (not (isNil (b .execution .rollback))) (λ e. omega arith)

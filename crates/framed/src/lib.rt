@@ -3,7 +3,8 @@ use libc::STDIN_FILENO;
 ghost use Prim.Native.Nat.{_<_};
 ghost use Rattle.io.specs.Counts.{Counts};
 
-// Reads the next part to the front of the lent bytes and returns its length, 0 where they have no room for it or none is left.
+// Reads the next part to the front of the lent bytes and returns how many of its bytes were there: fewer than its length where standard
+// input ends inside it, and 0, with none of them read, where the lent bytes have no room for it.
 pub fn read_part(part: &mut [u8]) -> usize
     ensures { λ n. ⌜ Counts n (now (part .exit)) ⌝ }
 {

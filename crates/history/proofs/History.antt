@@ -11,7 +11,7 @@ use Rattle.registers.specs.Replay.{replay}
 use Rattle.creek.specs.declared.Answer.{Answer}
 use Rattle.creek.specs.Plan.{order}
 use Rattle.creek.specs.Execution.{operations, registers, owed, isIdle}
-use Rattle.creek.specs.Book.{Call, Book, refusal, accepted, notedAll}
+use Rattle.creek.specs.Book.{Call, Book, refusal, notedAll}
 use Rattle.creek.specs.Calls.{Replica, fresh, step, answer}
 use Rattle.creek.specs.History.{run, due, settleDown, dueCalls}
 use Rattle.creek.proofs.DueLaws.{due-calls, run-due}
