@@ -50,19 +50,33 @@ fn stored_lists_of_calls_are_answered_again() {
 
 /// Both must print the stored output of a folder's cases.
 fn cases_are_printed_again(folder: &str, output: fn(&[u8]) -> Vec<u8>, naive: fn(&[u8]) -> String) {
-    let cases = stored_in(folder, "stdin");
-    let mut rest = cases.as_slice();
     let mut printed = Vec::new();
-    while !rest.is_empty() {
-        let name = part(&mut rest);
-        let input = part(&mut rest);
-        let text = output(input);
-        assert!(naive(input).as_bytes() == text, "{}", String::from_utf8_lossy(name));
-        printed.extend_from_slice(name);
+    for (name, input) in stored_cases(folder) {
+        let text = output(&input);
+        assert!(naive(&input).as_bytes() == text, "{name}");
+        printed.extend_from_slice(name.as_bytes());
         printed.push(b'\n');
         printed.extend_from_slice(&text);
     }
     assert!(printed == stored_in(folder, "stdout"));
+}
+
+/// The input of the stored case with this name.
+pub fn stored_case(folder: &str, name: &str) -> Vec<u8> {
+    let found = stored_cases(folder).into_iter().find(|case| case.0 == name);
+    found.unwrap_or_else(|| panic!("no case is named {name}")).1
+}
+
+/// Name and input of each case stored in a folder.
+fn stored_cases(folder: &str) -> Vec<(String, Vec<u8>)> {
+    let bytes = stored_in(folder, "stdin");
+    let mut rest = bytes.as_slice();
+    let mut cases = Vec::new();
+    while !rest.is_empty() {
+        let name = String::from_utf8(part(&mut rest).to_vec()).unwrap();
+        cases.push((name, part(&mut rest).to_vec()));
+    }
+    cases
 }
 
 /// The next part of the stored cases: its length in three bytes, and then it.

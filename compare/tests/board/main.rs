@@ -5,6 +5,7 @@ mod difference;
 mod edges;
 mod examples;
 mod faults;
+mod long_orders;
 mod naive;
 mod own_clocks;
 mod random_bytes;

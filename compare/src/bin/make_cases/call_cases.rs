@@ -8,7 +8,8 @@ use mizzencord_compare::request::*;
 use mizzencord_compare::wire::{Message, WEAK_LENGTH};
 
 use crate::{
-    add, bytes_of, claim, set, settlement, shift, strong, strong_of, weak, Cases, BAD_OPERATIONS, MOST_NAMED,
+    add, bytes_of, claim, heard_in_clock_order, set, settlement, shift, strong, strong_of, weak, Cases,
+    BAD_OPERATIONS, MOST_NAMED, WIDEST_SHOP,
 };
 
 pub fn cases() -> Cases {
@@ -26,6 +27,7 @@ pub fn cases() -> Cases {
     unreadable(&mut cases);
     random_lists(&mut cases);
     limits(&mut cases);
+    long_order(&mut cases);
     cases
 }
 
@@ -388,4 +390,28 @@ fn limits(cases: &mut Cases) {
     let mut bytes = list((8, 7), &(0..most as u32).map(call).collect::<Vec<Call>>()).into_bytes();
     bytes.resize(MOST_BYTES, 1);
     cases.add("as many bytes as a list can have", bytes);
+}
+
+/// A long order with a request made to stand at its front and one near its end,
+/// behind each of them the undos that are due and one more, which is refused.
+/// Then a settlement that leaves the order as it is, and one that changes it.
+fn long_order(cases: &mut Cases) {
+    const HEARD: usize = 300;
+    let [panels, own] = WIDEST_SHOP;
+    let heard: Vec<Call> = heard_in_clock_order(HEARD).into_iter().map(take).collect();
+    let front = [Call::RunDue, make(set(4, 1_000), 5)];
+    let near_the_end = [Call::RunDue, make_strong(read(4), 2_975)];
+    let last = take(strong(6, 43, 3_010, set(4, 5_000), &[]));
+    let calls = [
+        &heard[..],
+        &front,
+        &[Call::Undo; HEARD + 1],
+        &near_the_end,
+        &[Call::Undo; 4],
+        &[Call::CarryOut; 5],
+        &[settle(own, 2), Call::RunDue, last, Call::CarryOut, settle(6, 43), Call::Undo, Call::RunDue],
+    ];
+    let name =
+        format!("{HEARD} heard in clock order, then one made before all and one before the last three");
+    cases.add_calls(name, (panels, own), &calls.concat());
 }

@@ -98,6 +98,8 @@ fn cases() -> Cases {
     registers(&mut cases);
     random_runs(&mut cases);
     cases.add("as many bytes as count, the last message whole", full_input());
+    late_in_long_orders(&mut cases);
+    settled_in_long_orders(&mut cases);
     cases
 }
 
@@ -106,8 +108,18 @@ fn cases() -> Cases {
 /// The shop of most cases: three panels, of which this is the last.
 const SHOP: [u8; 2] = [3, 2];
 
+/// The shop whose last panel can hear the most requests.
+const WIDEST_SHOP: [u8; 2] = [8, 7];
+
+/// How many it can hear: 64 of each other panel.
+const MOST_HEARD: usize = 448;
+
 fn input_of(messages: &[Message]) -> Vec<u8> {
-    let mut bytes = SHOP.to_vec();
+    input_in(SHOP, messages)
+}
+
+fn input_in(shop: [u8; 2], messages: &[Message]) -> Vec<u8> {
+    let mut bytes = shop.to_vec();
     for message in messages {
         append(&mut bytes, message);
     }
@@ -156,6 +168,24 @@ fn claim(r: u8, v: u32) -> Operation {
 
 fn shift(r: u8, q: u8, v: u32) -> Operation {
     Operation::new(MOVE, r, q, v)
+}
+
+/// The i-th number, counted from 0, of so many panels that make a request each
+/// in turn.
+fn number_in_turn(i: usize, panels: u8) -> Number {
+    Number::new((i % panels as usize) as u8, (i / panels as usize) as u8 + 1)
+}
+
+/// The weak request at a place, counted from 1, of those that the widest shop's
+/// last panel hears.
+fn heard(place: usize, clock: u32, operation: Operation) -> Message {
+    let number = number_in_turn(place - 1, WIDEST_SHOP[1]);
+    weak(number.panel.0, number.event.0, clock, operation)
+}
+
+/// The first so many requests heard, each clock ten above the one before.
+fn heard_in_clock_order(count: usize) -> Vec<Message> {
+    (1..=count).map(|place| heard(place, 10 * place as u32, add(4, 1))).collect()
 }
 
 /// The messages of document 01's input.
@@ -460,6 +490,42 @@ fn random_runs(cases: &mut Cases) {
     }
 }
 
+// ---- long orders
+
+/// Requests that are heard late and stand near the end, at the front and in the
+/// middle.
+fn late_in_long_orders(cases: &mut Cases) {
+    const IN_ORDER: usize = 444;
+    let before_the_last = 10 * IN_ORDER as u32 - 5;
+    let mut messages = heard_in_clock_order(IN_ORDER);
+    for (late, clock) in (1..).zip([before_the_last, 5, 2_225, before_the_last - 10]) {
+        messages.push(heard(IN_ORDER + late, clock, set(4, 1_000 * late as u32)));
+    }
+    assert_eq!(messages.len(), MOST_HEARD);
+    let places = "one before the last, one before all, one in the middle and one before the last three";
+    cases.add(format!("{IN_ORDER} heard in clock order, then {places}"), input_in(WIDEST_SHOP, &messages));
+}
+
+/// Settlements of the request at a place, which names so many of the first.
+fn settled_in_long_orders(cases: &mut Cases) {
+    for (place, named, name) in [
+        (448, 0, "the last settled and naming none"),
+        (448, 443, "the last settled and naming all but four"),
+        (448, 447, "the last settled and naming all"),
+        (300, 295, "the 300th settled and naming all but four"),
+    ] {
+        let mut messages = heard_in_clock_order(MOST_HEARD);
+        let mut context = NumberSet::EMPTY;
+        messages[..named].iter().for_each(|message| context.insert(message.number().slot()));
+        let number = messages[place - 1].number();
+        let clock = 10 * place as u32;
+        messages[place - 1] = strong_of(number.panel.0, number.event.0, clock, set(4, 1_000), context);
+        messages.push(Message::Settlement(number));
+        let name = format!("{MOST_HEARD} heard in clock order, {name} before it");
+        cases.add(name, input_in(WIDEST_SHOP, &messages));
+    }
+}
+
 // ---- long inputs
 
 /// As many bytes as count, of messages that are whole: the last settles a request.
@@ -536,7 +602,7 @@ fn full_shift() -> Vec<u8> {
 /// The i-th request of a full shift, the panels in turn. A strong one names
 /// some of what is known and at times a strong one not settled.
 fn next_request(random: &mut Random, panel: &Panel, i: usize, others: u8) -> Request {
-    let number = Number::new((i % others as usize) as u8, (i / others as usize) as u8 + 1);
+    let number = number_in_turn(i, others);
     let (r, further) = (random.below(REGISTERS), 1 + random.below(REGISTERS - 1));
     let (r, q) = (r as u8, ((r + further) % REGISTERS) as u8);
     let amount = 1 + random.below(1000) as u32;
