@@ -41,7 +41,7 @@ pub fn run(bytes: &[u8], out: &mut [u8]) -> usize {
 }
 
 /// The panel that the first two bytes ask for.
-fn fresh(bytes: &[u8]) -> Panel {
+pub fn fresh(bytes: &[u8]) -> Panel {
     let byte = |at: usize| bytes.get(at).copied().unwrap_or(0);
     Panel::fresh(byte(0), byte(1)).1
 }

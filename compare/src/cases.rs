@@ -4,7 +4,7 @@ use crate::board::MOST_PRINTED;
 use crate::calls::{self, List, ANSWER_SIZE, CALL_SIZE};
 use crate::difference::{Case, Function};
 use crate::fields::{self, FIELDS_SIZE};
-use crate::random::{bus_run, message, printout_input, shop, Call, Random, Shift};
+use crate::random::{bus_run, long_calls, long_input, message, printout_input, shop, Call, Random, Shift};
 use crate::request::*;
 use crate::wire::{self, Parsed};
 
@@ -23,7 +23,7 @@ pub fn list_of_calls(seed: u64, length: usize) -> Case {
     Case { function: Function::Run, bytes, at: 0, room }
 }
 
-/// A shift of calls, due steps until idle, and then what some registers hold.
+/// A shift of calls, and what it leads to.
 fn shift(random: &mut Random, length: usize) -> Vec<u8> {
     let mut shift = Shift::new(random.word());
     let (panels, own) = shift.shop();
@@ -38,6 +38,11 @@ fn shift(random: &mut Random, length: usize) -> Vec<u8> {
             call => list.add(&call),
         }
     }
+    with_probes(random, list)
+}
+
+/// The calls, due steps until idle, and then what some registers hold.
+fn with_probes(random: &mut Random, mut list: List) -> Vec<u8> {
     list.add_due_steps();
     for _ in 0..PROBES {
         let read = Operation::new(READ, random.below(REGISTERS) as u8, 0, 0);
@@ -45,6 +50,17 @@ fn shift(random: &mut Random, length: usize) -> Vec<u8> {
         list.add_due_steps();
     }
     list.into_bytes()
+}
+
+/// A long shift of calls.
+pub fn long_list_of_calls(seed: u64) -> Case {
+    let mut random = Random::new(seed);
+    let (panels, own, calls) = long_calls(random.word());
+    let mut list = List::new(panels, own);
+    calls.iter().for_each(|call| list.add(call));
+    let bytes = with_probes(&mut random, list);
+    let room = calls::count(&bytes) * ANSWER_SIZE;
+    Case { function: Function::Run, bytes, at: 0, room }
 }
 
 /// A strong request whose context names a few numbers more.
@@ -96,6 +112,11 @@ pub fn printed(seed: u64) -> Case {
     let input = printout_input(random.word());
     let room = if random.percent(2) { random.below(MOST_PRINTED) } else { MOST_PRINTED + random.below(100) };
     Case { function: Function::Print, bytes: input, at: 0, room }
+}
+
+/// The printout of a long shift.
+pub fn long_printed(seed: u64) -> Case {
+    Case { function: Function::Print, bytes: long_input(seed), at: 0, room: MOST_PRINTED }
 }
 
 /// Reading each message of a run up to its end, and then at places where none

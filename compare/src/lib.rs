@@ -5,6 +5,7 @@
 pub mod board;
 pub mod calls;
 pub mod cases;
+pub mod changes;
 pub mod difference;
 pub mod fields;
 pub mod panel;

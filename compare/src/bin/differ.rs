@@ -7,6 +7,7 @@ use std::{env, fs, io, process};
 use mizzencord_compare::board::{Board, Handwritten, MOST_PRINTED};
 use mizzencord_compare::calls::{self, ANSWER_SIZE};
 use mizzencord_compare::cases;
+use mizzencord_compare::changes::{LongChanges, LONG};
 use mizzencord_compare::difference::{Case, Function, Outcome};
 use mizzencord_compare::progress::{progress, progress_ends};
 use mizzencord_compare::proved::Proved;
@@ -31,6 +32,7 @@ struct Counts {
     calls: usize,
     refusals: [usize; REFUSALS],
     raised: usize,
+    changes: LongChanges,
     printouts: usize,
     printed: usize,
     readings: Tally,
@@ -87,10 +89,16 @@ impl Comparison {
                     counts.refusals[answer[0] as usize] += 1;
                     counts.raised += calls::is_raised(call, answer) as usize;
                 }
+                if result > 0 {
+                    counts.changes.count_calls(&case.bytes);
+                }
             }
             Function::Print => {
                 counts.printouts += 1;
                 counts.printed += result;
+                if result > 0 {
+                    counts.changes.count_messages(&case.bytes);
+                }
             }
             Function::Read => counts.readings.count(result),
             Function::Write => counts.writings.count(result),
@@ -140,9 +148,11 @@ fn main() -> io::Result<()> {
     }
     println!("seed {seed}; stored cases: {}", stored.len());
     let mut random = Random::new(seed);
+    let mut long = random.fork();
     let mut next_line = 0;
     while comparison.counts.calls < calls {
         round(&mut comparison, &mut random);
+        long_shifts(&mut comparison, &mut long);
         let counts = &comparison.counts;
         if counts.calls >= next_line {
             progress(&format!("{} of {calls} calls, {} printouts", counts.calls, counts.printouts));
@@ -171,6 +181,12 @@ fn round(comparison: &mut Comparison, random: &mut Random) {
     }
 }
 
+/// Compares a long list of calls and a long printout.
+fn long_shifts(comparison: &mut Comparison, random: &mut Random) {
+    comparison.compare(&cases::long_list_of_calls(random.word()));
+    comparison.compare(&cases::long_printed(random.word()));
+}
+
 fn summary(counts: &Counts) {
     println!(
         "calls: {} in {} lists; {}",
@@ -179,6 +195,11 @@ fn summary(counts: &Counts) {
         by_number(counts.refusals[0], &counts.refusals)
     );
     println!("requests made whose clock was raised: {}", counts.raised);
+    let LongChanges { front, middle, end } = counts.changes;
+    println!(
+        "changes of orders with {LONG} or more executed: \
+         at the front {front}, in the middle {middle}, near the end {end}"
+    );
     println!("printouts: {} with {} bytes", counts.printouts, counts.printed);
     for (name, tally) in [("read", &counts.readings), ("written", &counts.writings)] {
         println!(

@@ -6,6 +6,7 @@ mod edges;
 mod examples;
 mod faults;
 mod long_orders;
+mod long_shifts;
 mod naive;
 mod own_clocks;
 mod random_bytes;

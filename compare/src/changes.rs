@@ -1,0 +1,66 @@
+//! Where calls change long orders: how much of a long executed list they leave.
+
+use crate::calls;
+use crate::panel::Panel;
+use crate::printout::MOST_BYTES;
+use crate::random::Call;
+use crate::wire::{parse, Message, Parsed};
+
+/// How many executed requests make an order long.
+pub const LONG: usize = 200;
+
+/// A change that leaves fewer than these is at the front, and one that undoes
+/// fewer is near the end.
+pub const NEAR: usize = 10;
+
+/// How many calls changed a long order, by the place.
+#[derive(Clone, Copy, Debug, Default, PartialEq, Eq)]
+pub struct LongChanges {
+    pub front: usize,
+    pub middle: usize,
+    pub end: usize,
+}
+
+impl LongChanges {
+    /// Gives a panel a call that changes it and counts the call.
+    pub fn carry(&mut self, panel: &mut Panel, call: &Call) {
+        let executed = panel.executed().len();
+        calls::carry(panel, call);
+        self.count(executed, panel.executed().len());
+    }
+
+    fn count(&mut self, executed: usize, left: usize) {
+        if executed < LONG || left >= executed {
+            return;
+        }
+        if left < NEAR {
+            self.front += 1;
+        } else if executed - left < NEAR {
+            self.end += 1;
+        } else {
+            self.middle += 1;
+        }
+    }
+
+    /// Counts the calls of a list.
+    pub fn count_calls(&mut self, bytes: &[u8]) {
+        let mut panel = calls::fresh(bytes);
+        calls::each(bytes).for_each(|call| self.carry(&mut panel, &calls::decode(call)));
+    }
+
+    /// Counts the messages of a printout's input.
+    pub fn count_messages(&mut self, input: &[u8]) {
+        let input = &input[..input.len().min(MOST_BYTES)];
+        let mut panel = calls::fresh(input);
+        let mut at = calls::CALLS_AT;
+        while let Parsed::Message(message, taken) = parse(input, at) {
+            let call = match message {
+                Message::Request(request) => Call::Hear(request),
+                Message::Settlement(number) => Call::Settle(number),
+            };
+            self.carry(&mut panel, &call);
+            panel.run_due();
+            at += taken;
+        }
+    }
+}
