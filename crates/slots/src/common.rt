@@ -6,8 +6,8 @@ ghost use lib.Seq.{slice};
 ghost use Rattle.lists.specs.Lists.{commonStart};
 ghost use Rattle.slots.specs.Slots.{PartsAsk};
 
-// The place at which the common start from `at` on of the first n of xs and the first m of ys ends: compares the first elements and
-// then asks the same of the rest.
+// The place at which the common start from `at` on of the first n of xs and the first m of ys ends: goes up from `at` as long as both
+// lists have an element there and the two are the same.
 pub fn common_start<'a>(
     xs: &'a [u16; 512],
     n: usize,
@@ -18,17 +18,14 @@ pub fn common_start<'a>(
     requires { ⌜ PartsAsk (now xs) n (now ys) m at ⌝ }
     ensures { λ r. ⌜ r ≡ at + commonStart eqb (slice at n (now (xs .entry))) (slice at m (now (ys .entry))) ⌝ }
 {
-    if at == n {
-        return at;
+    let mut place = at;
+    while (place < n) & (place < m) {
+        let x = xs[place];
+        let y = ys[place];
+        if x != y {
+            return place;
+        }
+        place += 1;
     }
-    if at == m {
-        return at;
-    }
-    let x = xs[at];
-    let y = ys[at];
-    if x == y {
-        common_start(xs, n, ys, m, at + 1)
-    } else {
-        at
-    }
+    place
 }
