@@ -145,18 +145,15 @@ impl Operation {
         }
     }
 
+    /// Moves the least of the amount, what r holds and the room left in q, and
+    /// gives how much that is.
     fn execute_move(&self, registers: &mut [u32; REGISTERS]) -> u32 {
         let (r, q) = (self.r as usize, self.q as usize);
-        let left = registers[r].checked_sub(self.amount);
-        let reached = registers[q].checked_add(self.amount);
-        match (left, reached) {
-            (Some(left), Some(reached)) => {
-                registers[r] = left;
-                registers[q] = reached;
-                1
-            }
-            _ => 0,
-        }
+        let room = u32::MAX - registers[q];
+        let moved = self.amount.min(registers[r]).min(room);
+        registers[r] -= moved;
+        registers[q] += moved;
+        moved
     }
 }
 

@@ -1,7 +1,7 @@
-//! Algorithm 1 with document 01's refusals and document 02's request (b), as
-//! literally as it goes: lists are vectors of whole requests and every value
-//! comes from a replay on a zero board. There is no undo log, no saved register
-//! and no count of own requests.
+//! Algorithm 1 with document 01's refusals and document 02's requests (b) and
+//! (i), as literally as it goes: lists are vectors of whole requests and every
+//! value comes from a replay on a zero board. There is no undo log, no saved
+//! register and no count of own requests.
 
 use mizzencord_compare::calls;
 use mizzencord_compare::panel::Answer;
@@ -56,6 +56,9 @@ pub fn good(op: &Operation) -> bool {
     plain_q && read_amount && claim_amount && distinct
 }
 
+/// The most that a register holds.
+const TOP: u64 = 4_294_967_295;
+
 pub fn run(op: &Operation, board: &mut [u64; 64]) -> u32 {
     let (r, q, v) = (op.r as usize, op.q as usize, op.amount as u64);
     let former = board[r];
@@ -76,13 +79,13 @@ pub fn run(op: &Operation, board: &mut [u64; 64]) -> u32 {
             board[r] as u32
         }
         5 => {
-            if former >= v && board[q] + v < 1 << 32 {
-                board[r] -= v;
-                board[q] += v;
-                1
-            } else {
-                0
-            }
+            // What q has no room for goes back to r.
+            let taken = if v > former { former } else { v };
+            let whole = board[q] + taken;
+            let back = if whole > TOP { whole - TOP } else { 0 };
+            board[r] = former - taken + back;
+            board[q] = whole - back;
+            (taken - back) as u32
         }
         _ => unreachable!(),
     }

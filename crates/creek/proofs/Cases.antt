@@ -7,7 +7,7 @@ use Rattle.sets.specs.Sets.{sameWords, sameContext, allZero, isEmpty, namesFrom
 use Rattle.sets.specs.Sets.{lackedWords, difference, subset}
 use Rattle.request.specs.Order.{before}
 use Rattle.request.specs.Request.{sameRequest, badContext}
-use Rattle.registers.specs.Effect.{offBoard, added, claimed, movable, moved, exec, response}
+use Rattle.registers.specs.Effect.{offBoard, added, claimed, amountMoved, moved, exec, response}
 use Rattle.registers.specs.Replay.{replayOn, replay}
 use Rattle.creek.specs.Plan.{lastEvent, lastClock, entered, without, atLeast, made, committing, committingFound}
 use Rattle.creek.specs.Plan.{invokeRefusal, deliverRefusal, commitRefusal}
@@ -27,7 +27,7 @@ use Rattle.creek.specs.Readings.{madeAndHeard, readings}
 pub edge-cases : map (λ (c : Case). c .computed) cases ≡ map (λ (c : Case). c .said) cases
 unfolding cases standing worked afterWorked nineNineEight onRegisters answers spreads eventsAndClocks numbers driven freshRefusal
     sameNumber badNumber sameOperation badOperation sameWords sameContext allZero isEmpty namesFrom bit member join leave
-    lackedWords difference subset before sameRequest badContext offBoard added claimed movable moved exec response replayOn replay
+    lackedWords difference subset before sameRequest badContext offBoard added claimed amountMoved moved exec response replayOn replay
     lastEvent lastClock entered atLeast made committing committingFound invokeRefusal deliverRefusal commitRefusal registers
     adjusted undone undoRefusal executedNext executeRefusal refusal accepted acceptedAnswer settlementReply stableReplyDue
     namedByRefusal answerOf acceptedAwaiting badShop fresh accept step run settleDown registerShown
@@ -44,7 +44,7 @@ readings-told = refl
 pub faults-shown : map (λ (c : Case). c .computed) faults ≡ map (λ (c : Case). c .said) faults
 unfolding faults standing strongHeard twiceChanged overtaken numbers driven sameNumber badNumber sameOperation badOperation sameWords
     sameContext allZero isEmpty namesFrom bit member join leave lackedWords difference subset before sameRequest badContext
-    offBoard added claimed movable moved exec response replayOn replay lastEvent lastClock entered without atLeast made committing
+    offBoard added claimed amountMoved moved exec response replayOn replay lastEvent lastClock entered without atLeast made committing
     committingFound invokeRefusal deliverRefusal commitRefusal registers adjusted undone undoRefusal executedNext executeRefusal
     refusal accepted responseOn responseIn executionMark executionReply undoReply acceptedAnswer settlementReply stableReplyDue
     namedByRefusal answerOf acceptedAwaiting badShop fresh accept step run settleDown registerShown

@@ -1,4 +1,5 @@
--- The cases at the edges that document 01 marks with ●: one list, each case what the definitions compute beside what the document says.
+-- The cases at the edges that document 01 marks with ●, as document 02 amends and adds to them: one list, each case what the definitions
+-- compute beside what the documents say.
 -- That the two are equal is `edge-cases` in `proofs/Cases`.
 use Prim.Native.Nat.{ℕ}
 use mathlib.Core.List.{List, [], _∷_, _++_}
@@ -46,11 +47,15 @@ cases =
     ∷ case (onRegisters 5 0 (add 4294967295 0)) (4 ∷ 4 ∷ 0 ∷ [])
     -- claim for 3 where 2 stands: response 2, unchanged
     ∷ case (onRegisters 2 0 (claim 0 3)) (2 ∷ 2 ∷ 0 ∷ [])
-    -- with 0 in q, move 5 from 5: 1, leaving 0; move 6 from 5: 0
-    ∷ case (onRegisters 5 0 (move 5 0 1)) (1 ∷ 0 ∷ 5 ∷ [])
-    ∷ case (onRegisters 5 0 (move 6 0 1)) (0 ∷ 5 ∷ 0 ∷ [])
-    -- move 1 into 4,294,967,295: 0
+    -- as document 02's request (i) amends the moves: with 0 in q, move 5 from 5: 5, leaving 0; move 6 from 5: 5, leaving 0 and 5
+    ∷ case (onRegisters 5 0 (move 5 0 1)) (5 ∷ 0 ∷ 5 ∷ [])
+    ∷ case (onRegisters 5 0 (move 6 0 1)) (5 ∷ 0 ∷ 5 ∷ [])
+    -- move 1 into 4,294,967,295: 0, both unchanged
     ∷ case (onRegisters 5 4294967295 (move 1 0 1)) (0 ∷ 5 ∷ 4294967295 ∷ [])
+    -- a move of 0 responds 0
+    ∷ case (onRegisters 5 7 (move 0 0 1)) (0 ∷ 5 ∷ 7 ∷ [])
+    -- move 9 from 9 into 4,294,967,290: 5, leaving 4 and 4,294,967,295
+    ∷ case (onRegisters 9 4294967290 (move 9 0 1)) (5 ∷ 4 ∷ 4294967295 ∷ [])
     -- move with r = q: 3
     ∷ case (answers (fresh 2 0) (make 0 (move 1 3 3) ∷ deliver (weak 1 1 0 (move 1 3 3)) ∷ []))
     (refused.badOperation ∷ refused.badOperation ∷ [])

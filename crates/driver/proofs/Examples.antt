@@ -7,7 +7,7 @@ use Rattle.numbers.specs.Numbers.{sameNumber, badNumber}
 use Rattle.request.specs.Operations.{badOperation}
 use Rattle.request.specs.Order.{before}
 use Rattle.sets.specs.Sets.{allZero, isEmpty, bit, member, join, leave}
-use Rattle.registers.specs.Effect.{offBoard, added, claimed, movable, moved, exec, response}
+use Rattle.registers.specs.Effect.{offBoard, added, claimed, amountMoved, moved, exec, response}
 use Rattle.registers.specs.Replay.{replayOn, replay}
 use Rattle.creek.specs.Book.{refusal, accepted}
 use Rattle.creek.specs.Calls.{badShop, fresh, accept, step}
@@ -39,7 +39,7 @@ zeros = 18 ∷ 0 ∷ 1 ∷ 0 ∷ replicate 78 0
 
 pub made-and-carried-out : answersBytes (freshOf asked) (entriesOf asked)
     ≡ (0 ∷ 0 ∷ 0 ∷ 0 ∷ 0 ∷ 0 ∷ 0 ∷ 0 ∷ spread ++ replicate 64 0) ++ 0 ∷ 1 ∷ 0 ∷ 1 ∷ 7 ∷ 0 ∷ 0 ∷ 0 ∷ zeros
-unfolding sameNumber badNumber badOperation before allZero isEmpty bit member join leave offBoard added claimed movable
+unfolding sameNumber badNumber badOperation before allZero isEmpty bit member join leave offBoard added claimed amountMoved
     moved exec response replayOn replay refusal accepted badShop fresh accept step registers adjusted executedNext
     executeRefusal lastEvent lastClock entered atLeast made invokeRefusal executionMark executionReply acceptedAnswer answerOf
     acceptedAwaiting integerAt integerBytes layout size decode encode sizeOf fieldsAt kindOf contents fieldsOf bytesOf

@@ -1,20 +1,19 @@
 -- What every operation keeps, shown for one operation after the other: the number of registers, those that it does not name, and the
 -- range of their values. `RegisterLaws` has these as laws of their own.
-use Prim.Native.Nat.{ℕ, zero, suc, _+_, _-_, _<_}
+use Prim.Native.Nat.{ℕ, zero, suc, _<_}
 use native.Mathlib.Nat.{mod-lt}
 use native.Mathlib.Omega.{arith}
 use mathlib.Core.Path.{_≡_, refl, _∙_}
 use mathlib.Core.Logic.{_≢_}
-use mathlib.Core.Bool.{true}
 use mathlib.Core.List.{List, [], _∷_}
 use lib.ListN.{length, getD, set, length-set}
 use lib.Seq.{getD-set-other}
-use lib.Dec.{leb, eqb}
-use borrow.Author.Tests.{ltb-true}
+use lib.Dec.{eqb}
 use Rattle.request.specs.declared.Operation.{Operation}
 use Rattle.request.specs.Operations.{codeSet, codeAdd, codeClaim, codeMove}
-use Rattle.lists.proofs.BoolLaws.{both-true, either}
-use Rattle.registers.specs.Effect.{range, offBoard, added, claimed, movable, moved, exec}
+use Rattle.lists.proofs.BoolLaws.{either}
+use Rattle.registers.specs.Effect.{range, offBoard, added, claimed, moved, exec}
+use Rattle.registers.proofs.AmountLaws.{least-of-three}
 
 -- ---- writing a register that the operation names
 
@@ -68,16 +67,9 @@ module _ (o : Operation) (b : List ℕ) where
   unfolding claimed
   claim-keeps = keeps-r _ (λ a g. either (λ v. v < range) (eqb (getD b (o .r) 0) 0) (λ e. a) (λ e. g (o .r)))
 
-  move-fits : movable o b ≡ true → getD b (o .q) 0 + o .amount < range
-  unfolding movable
-  move-fits m = ltb-true _ _ (both-true (leb (o .amount) (getD b (o .r) 0)) _ m .1)
-
   move-keeps : Keeps o b (moved o b)
   unfolding moved
-  move-keeps =
-      either (Keeps o b) (movable o b)
-      (λ m. keeps-r-q _ _ (λ a g. omega (arith, g (o .r))) (λ a g. move-fits m))
-      (λ m. keeps-same)
+  move-keeps = keeps-r-q _ _ (λ a g. omega (arith, g (o .r))) (λ a g. least-of-three o b .fits (g (o .q)))
 
   pub exec-keeps : Keeps o b (exec o b)
   unfolding exec

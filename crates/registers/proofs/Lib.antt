@@ -1,4 +1,5 @@
 -- The laws of the definitions in `specs/`, for this crate's proofs and for the crates above it.
+pub mod AmountLaws
 pub mod FrameLaws
 pub mod RegisterLaws
 pub mod ReplayLaws

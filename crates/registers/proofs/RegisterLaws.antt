@@ -1,7 +1,8 @@
--- Laws of one operation on the registers, in this order: the registers that one on the board names; a move's condition; the outcomes of
--- an operation, one law each; what every operation keeps; and that rolling back restores the registers from before.
--- How an operation keeps what it keeps is in `FrameLaws`, laws of many operations in turn are in `ReplayLaws`.
-use Prim.Native.Nat.{ℕ, _+_, _-_, _≤_, _<_}
+-- Laws of one operation on the registers, in this order: the registers that one on the board names; the outcomes of an operation, one law
+-- each; what every operation keeps; and that rolling back restores the registers from before.
+-- How an operation keeps what it keeps is in `FrameLaws`, laws of many operations in turn are in `ReplayLaws`, of moves alone in
+-- `AmountLaws`.
+use Prim.Native.Nat.{ℕ, _≤_, _<_}
 use native.Mathlib.Decide.{ℕ-discrete}
 use native.Mathlib.Omega.{arith}
 use mathlib.Core.Path.{_≡_, refl, sym, _∙_}
@@ -10,12 +11,11 @@ use mathlib.Core.Bool.{Bool, true, false}
 use mathlib.Core.List.{List}
 use lib.ListN.{length, getD, set, length-set}
 use lib.Seq.{getD-set-same, getD-set-other, set-getD, ext-getD}
-use lib.Dec.{leb}
-use borrow.Author.Tests.{ltb-false, lt-ltb, le-ltb, le-leb, lt-leb, ne-eqb}
+use borrow.Author.Tests.{ltb-false, ne-eqb}
 use Rattle.request.specs.declared.Operation.{Operation}
 use Rattle.request.specs.Operations.{codeRead, codeSet, codeAdd, codeClaim, codeMove, lastRegister}
-use Rattle.lists.proofs.BoolLaws.{both, neither-true, first-false, second-false}
-use Rattle.registers.specs.Effect.{range, offBoard, added, claimed, movable, moved, exec, response, Executed}
+use Rattle.lists.proofs.BoolLaws.{neither-true}
+use Rattle.registers.specs.Effect.{range, offBoard, added, claimed, amountMoved, moved, exec, response, Executed}
 use Rattle.registers.specs.Rollback.{savedOf, restored}
 use Rattle.registers.proofs.FrameLaws.{InRange, exec-keeps}
 
@@ -30,21 +30,6 @@ unfolding offBoard
 on-board o e =
     let apart = neither-true _ _ e in
     record { r = ltb-false _ _ (apart .0); q = ltb-false _ _ (apart .1) }
-
--- ---- a move's condition
-
-module _ (o : Operation) (b : List ℕ) where
-  pub movable-both : o .amount ≤ getD b (o .r) 0 → getD b (o .q) 0 + o .amount < range → movable o b ≡ true
-  unfolding movable
-  movable-both enough fits = both (le-leb _ _ enough) (lt-ltb _ _ fits)
-
-  pub movable-short : getD b (o .r) 0 < o .amount → movable o b ≡ false
-  unfolding movable
-  movable-short short = first-false _ (lt-leb _ _ short)
-
-  pub movable-full : range ≤ getD b (o .q) 0 + o .amount → movable o b ≡ false
-  unfolding movable
-  movable-full full = second-false (leb (o .amount) (getD b (o .r) 0)) (le-ltb _ _ full)
 
 -- ---- outcomes
 
@@ -76,14 +61,9 @@ module _ (o : Operation) (b : List ℕ) where
         let taken = ne-eqb _ _ n in
         record { effect = simp (on, e, taken, set-getD); response = simp (on, e, taken) }
 
-    pub executed-move : o .code ≡ codeMove → movable o b ≡ true
-        → Executed o b (set (set b (o .r) (getD b (o .r) 0 - o .amount)) (o .q) (getD b (o .q) 0 + o .amount)) 1
-    unfolding exec response moved
-    executed-move e m = record { effect = simp (on, e, m); response = simp (on, e, m) }
-
-    pub executed-no-move : o .code ≡ codeMove → movable o b ≡ false → Executed o b b 0
-    unfolding exec response moved
-    executed-no-move e m = record { effect = simp (on, e, m); response = simp (on, e, m) }
+    pub executed-move : o .code ≡ codeMove → Executed o b (moved o b) (amountMoved o b)
+    unfolding exec response
+    executed-move e = record { effect = simp (on, e); response = simp (on, e) }
 
     pub executed-unknown : o .code ≢ codeRead → o .code ≢ codeSet → o .code ≢ codeAdd → o .code ≢ codeClaim → o .code ≢ codeMove
         → Executed o b b 0

@@ -1,10 +1,10 @@
--- What an operation does to the registers and what it responds, by document 01's table.
-use Prim.Native.Nat.{ℕ, _+_, _-_, _%_, _^_}
+-- What an operation does to the registers and what it responds, by document 01's table, in which document 02's request (i) changes move.
+use Prim.Native.Nat.{ℕ, _+_, _-_, _%_, _^_, min}
 use mathlib.Core.Path.{_≡_}
-use mathlib.Core.Bool.{Bool, false, _&&_, _||_, cond}
+use mathlib.Core.Bool.{Bool, false, _||_, cond}
 use mathlib.Core.List.{List}
 use lib.ListN.{getD, set}
-use lib.Dec.{ltb, leb, eqb}
+use lib.Dec.{ltb, eqb}
 use Rattle.request.specs.declared.Operation.{Operation}
 use Rattle.request.specs.Operations.{codeRead, codeSet, codeAdd, codeClaim, codeMove, lastRegister}
 
@@ -24,13 +24,13 @@ added o b = (getD b (o .r) 0 + o .amount) % range
 unfoldable pub claimed : Operation → List ℕ → ℕ
 claimed o b = cond (eqb (getD b (o .r) 0) 0) (o .amount) (getD b (o .r) 0)
 
--- a move's condition: r holds at least v, and q + v stays in range
-unfoldable pub movable : Operation → List ℕ → Bool
-movable o b = leb (o .amount) (getD b (o .r) 0) && ltb (getD b (o .q) 0 + o .amount) range
+-- the amount that a move moves: "the least of the amount, what r holds, and the room left in q", which is 4,294,967,295 less what q holds
+unfoldable pub amountMoved : Operation → List ℕ → ℕ
+amountMoved o b = min (o .amount) (min (getD b (o .r) 0) (range - 1 - getD b (o .q) 0))
 
--- the registers after a move: both change, or neither
+-- the registers after a move: r holds that amount less, and q what it held and that amount
 unfoldable pub moved : Operation → List ℕ → List ℕ
-moved o b = cond (movable o b) (set (set b (o .r) (getD b (o .r) 0 - o .amount)) (o .q) (getD b (o .q) 0 + o .amount)) b
+moved o b = set (set b (o .r) (getD b (o .r) 0 - amountMoved o b)) (o .q) (getD b (o .q) 0 + amountMoved o b)
 
 -- the registers after an operation; one off the board, or of no known code, changes nothing
 unfoldable pub exec : Operation → List ℕ → List ℕ
@@ -42,7 +42,7 @@ exec o b =
     (cond (eqb (o .code) codeMove) (moved o b)
     b))))
 
--- its response; 0 for one off the board, or of no known code
+-- its response, for a move the amount moved; 0 for one off the board, or of no known code
 unfoldable pub response : Operation → List ℕ → ℕ
 response o b =
     cond (offBoard o) 0
@@ -50,7 +50,7 @@ response o b =
     (cond (eqb (o .code) codeSet) (getD b (o .r) 0)
     (cond (eqb (o .code) codeAdd) (added o b)
     (cond (eqb (o .code) codeClaim) (claimed o b)
-    (cond (eqb (o .code) codeMove) (cond (movable o b) 1 0)
+    (cond (eqb (o .code) codeMove) (amountMoved o b)
     0)))))
 
 -- o was executed on the registers b: they became b′, and it responded x

@@ -4,8 +4,9 @@
 // Every function takes any operation: one that names a register over 63 saves zeros, changes nothing and responds 0.
 use request::Operation;
 use request::operations;
+ghost use Prim.Native.Nat.{_+_, _-_, min};
 ghost use mathlib.Core.Path.{_≡_};
-ghost use Rattle.registers.specs.Effect.{offBoard, MoveOnBoard, Executed};
+ghost use Rattle.registers.specs.Effect.{range, offBoard, MoveOnBoard, Executed};
 ghost use Rattle.registers.specs.Rollback.{savedOf, restored};
 ghost use Rattle.registers.specs.Replay.{zeroBoard};
 
@@ -70,25 +71,39 @@ pub fn execute(registers: &mut [u32; 64], o: Operation) -> u32
     0
 }
 
-// Executes a move: both registers change, or neither.
+// Executes a move: of the amount asked for, what there is and fits goes from r to q.
 fn execute_move(registers: &mut [u32; 64], o: Operation) -> u32
     requires { ⌜ MoveOnBoard o ⌝ }
     ensures { λ x. ⌜ Executed o (now (registers .entry)) (now (registers .exit)) x ⌝ }
 {
-    let amount = o.amount;
+    let asked = o.amount;
     let r = o.r as usize;
     let q = o.q as usize;
     let source = registers[r];
     let target = registers[q];
-    if source < amount {
-        return 0;
-    }
-    if u32::MAX - amount < target {
-        return 0;
-    }
+    let room = room_left(target);
+    let most = lesser(source, room);
+    let amount = lesser(asked, most);
     registers[r] = source - amount;
     registers[q] = target + amount;
-    1
+    amount
+}
+
+// The room left in a register that holds so much: with it the register is at its greatest value.
+fn room_left(held: u32) -> u32
+    ensures { λ x. ⌜ held + x ≡ range - 1 ⌝ }
+{
+    u32::MAX - held
+}
+
+// The lesser of two numbers.
+fn lesser(a: u32, b: u32) -> u32
+    ensures { λ x. ⌜ x ≡ min a b ⌝ }
+{
+    if a < b {
+        return a;
+    }
+    b
 }
 
 // Puts back what was saved before o.

@@ -1,9 +1,19 @@
--- `execute_move` meets its contract: the two tests decide a move's condition, and each return is an outcome of a move.
+-- `execute_move` meets its contract: what it works out is the amount moved, and its one return is a move's outcome.
 use native.Mathlib.Omega.{arith}
+use mathlib.Core.Path.{_≡_}
 use borrow.Author.Needs.{needs}
-use Rattle.registers.proofs.RegisterLaws.{on-board, movable-both, movable-short, movable-full, executed-move, executed-no-move}
+use Rattle.registers.specs.Effect.{amountMoved, moved}
+use Rattle.registers.proofs.RegisterLaws.{on-board, executed-move}
 use Rattle.registers.proofs.execute_move.Statement.{statement}
 use Rattle.registers.proofs.execute_move.Tie as tie
+
+-- the function's entry, from behind both calls of `lesser`
+abbrev entry : tie.After-lesser2 → tie.Start
+entry c = c .before .before .before .before .before .before .before
+
+amount-is : (c : tie.After-lesser2) → c .lesser2 .result ≡ amountMoved (entry c .args .o) (entry c .args .registers .now)
+unfolding amountMoved
+amount-is c = omega (arith, c .lesser2 .ensures, c .before .lesser .ensures, c .before .before .room-left .ensures)
 
 cast-r : tie.Need-cast-r
 cast-r c = search needs
@@ -23,24 +33,23 @@ mul-target c = search needs
 element-copy-out-target : tie.Need-element-copy-out-target
 element-copy-out-target c = omega (arith, on-board _ (c .before .before .before .pre .on))
 
-returns : tie.Need-returns
-returns c =
-    let pre = c .before .before .before .before .before .pre in
-    executed-no-move _ _ (pre .on) (pre .code) (movable-short _ _ (c .if1 .taken))
+room-left-requires : tie.Need-room-left-requires
+room-left-requires c κs = search needs
 
-sub-if2 : tie.Need-sub-if2
-sub-if2 c = search needs
+lesser-requires : tie.Need-lesser-requires
+lesser-requires c κs = search needs
 
-returns-2 : tie.Need-returns-2
-returns-2 c =
-    let pre = c .before .before .before .before .before .before .pre in
-    executed-no-move _ _ (pre .on) (pre .code) (movable-full _ _ (omega arith))
+lesser-requires-2 : tie.Need-lesser-requires-2
+lesser-requires-2 c κs = search needs
+
+sub-registers : tie.Need-sub-registers
+sub-registers c = search needs
 
 mul-registers : tie.Need-mul-registers
 mul-registers c = search needs
 
 element-write-registers : tie.Need-element-write-registers
-element-write-registers c = omega (arith, on-board _ (c .before .before .before .before .before .before .pre .on))
+element-write-registers c = omega (arith, on-board _ (entry c .pre .on))
 
 add-registers : tie.Need-add-registers
 add-registers c = search needs
@@ -49,12 +58,11 @@ mul-registers-2 : tie.Need-mul-registers-2
 mul-registers-2 c = search needs
 
 element-write-registers-2 : tie.Need-element-write-registers-2
-element-write-registers-2 c = omega (arith, on-board _ (c .before .before .before .before .before .before .pre .on))
+element-write-registers-2 c = omega (arith, on-board _ (entry c .pre .on))
 
-returns-3 : tie.Need-returns-3
-returns-3 c =
-    let pre = c .before .before .before .before .before .before .pre in
-    executed-move _ _ (pre .on) (pre .code) (movable-both _ _ (c .before .if1 .left) (omega arith))
+returns : tie.Need-returns
+unfolding moved
+returns c = rw (amount-is c) (executed-move _ _ (entry c .pre .on) (entry c .pre .code))
 
 pub execute-move-spec : {M : Type 1} → statement M
 execute-move-spec =
@@ -66,12 +74,13 @@ execute-move-spec =
     element-copy-out-source
     mul-target
     element-copy-out-target
-    returns
-    sub-if2
-    returns-2
+    room-left-requires
+    lesser-requires
+    lesser-requires-2
+    sub-registers
     mul-registers
     element-write-registers
     add-registers
     mul-registers-2
     element-write-registers-2
-    returns-3)
+    returns)
