@@ -15,5 +15,6 @@ pub mod ResponseLaws
 pub mod StableReply
 pub mod Waiting
 pub mod Clocks
+pub mod Moves
 pub mod CreekLines
 pub mod Cases

@@ -11,6 +11,7 @@ pub mod Demand
 pub mod StableReply
 pub mod Waiting
 pub mod Clocks
+pub mod Moves
 pub mod Stack
 pub mod Examples
 pub mod Cases

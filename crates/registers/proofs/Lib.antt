@@ -3,3 +3,4 @@ pub mod AmountLaws
 pub mod FrameLaws
 pub mod RegisterLaws
 pub mod ReplayLaws
+pub mod SumLaws

@@ -1,7 +1,7 @@
 -- Laws of one operation on the registers, in this order: the registers that one on the board names; the outcomes of an operation, one law
 -- each; what every operation keeps; and that rolling back restores the registers from before.
 -- How an operation keeps what it keeps is in `FrameLaws`, laws of many operations in turn are in `ReplayLaws`, of moves alone in
--- `AmountLaws`.
+-- `AmountLaws` and `SumLaws`.
 use Prim.Native.Nat.{ℕ, _≤_, _<_}
 use native.Mathlib.Decide.{ℕ-discrete}
 use native.Mathlib.Omega.{arith}
