@@ -22,7 +22,7 @@ use Rattle.creek.specs.Demand.{mostUndos}
 use Rattle.creek.specs.Examples.{Case, onRegisters, answers, spreads, eventsAndClocks, numbers, driven}
 use Rattle.creek.specs.Cases.{standing, worked, afterWorked, nineNineEight, cases}
 use Rattle.creek.specs.Faults.{strongHeard, twiceChanged, overtaken, falling, overtaking, faults, reaching}
-use Rattle.creek.specs.Readings.{madeAndHeard, readings}
+use Rattle.creek.specs.Readings.{madeAndHeard, readings, sumAfter, moveReadings}
 
 pub edge-cases : map (λ (c : Case). c .computed) cases ≡ map (λ (c : Case). c .said) cases
 unfolding cases standing worked afterWorked nineNineEight onRegisters answers spreads eventsAndClocks numbers driven freshRefusal
@@ -39,6 +39,11 @@ unfolding readings madeAndHeard answers spreads eventsAndClocks sameNumber badNu
     join leave before badContext lastEvent lastClock entered without atLeast made invokeRefusal deliverRefusal adjusted refusal
     accepted acceptedAnswer namedByRefusal answerOf acceptedAwaiting badShop fresh accept step run
 readings-told = refl
+
+pub move-readings-told : map (λ (c : Case). c .computed) moveReadings ≡ map (λ (c : Case). c .said) moveReadings
+unfolding moveReadings sumAfter onRegisters answers badOperation offBoard amountMoved moved exec response replayOn lastEvent entered
+    invokeRefusal adjusted executeRefusal refusal accepted executionReply acceptedAnswer answerOf badShop fresh accept step
+move-readings-told = refl
 
 -- each fault would show
 pub faults-shown : map (λ (c : Case). c .computed) faults ≡ map (λ (c : Case). c .said) faults

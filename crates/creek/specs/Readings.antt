@@ -1,14 +1,20 @@
 -- Calls that tell apart how document 02's requests may be read, each what the definitions compute beside what the reading chosen says.
--- That the two are equal is `readings-told` in `proofs/Cases`; why each is chosen is in docs/DECISIONS.md.
+-- That the two are equal is `readings-told` and `move-readings-told` in `proofs/Cases`; why each is chosen is in docs/DECISIONS.md.
+use Prim.Native.Nat.{ℕ}
 use mathlib.Core.List.{List, [], _∷_, _++_}
 use lib.ListN.{replicate}
 use Rattle.numbers.specs.Numbers.{numbered}
 use Rattle.sets.specs.Sets.{emptySet, join}
+use Rattle.request.specs.declared.Operation.{Operation}
+use Rattle.request.specs.Operations.{lastRegister}
 use Rattle.request.specs.Refusal as refused
-use Rattle.creek.specs.Book.{Call, deliver}
+use Rattle.registers.specs.Replay.{replayOn}
+use Rattle.registers.specs.Moves.{sum}
+use Rattle.creek.specs.Book.{Call, deliver, execute}
 use Rattle.creek.specs.Calls.{answer, fresh}
 use Rattle.creek.specs.History.{run}
-use Rattle.creek.specs.Examples.{Case, case, read, claim, weak, make, makeStrong, answers, spreads, eventsAndClocks}
+use Rattle.creek.specs.Examples.{Case, case, read, setTo, claim, move, weak, make, makeStrong, onRegisters, answers, spreads}
+use Rattle.creek.specs.Examples.{eventsAndClocks}
 
 -- panel 2 of 3 makes 2/1 at 20 and hears 0/1 at 15
 unfoldable pub madeAndHeard : List Call
@@ -32,4 +38,23 @@ readings =
     -- with 64 made a lower clock is answered with 6
     ∷ case (answers (fresh 1 0) (replicate 64 (make 9 (read 0)) ++ make 8 (read 0) ∷ []))
     (replicate 64 refused.accepted ++ refused.shiftFull ∷ [])
+    ∷ []
+
+-- the sum of the registers after those operations, where register 0 held 5 and every other one 0
+unfoldable pub sumAfter : List Operation → ℕ
+sumAfter os = sum (replayOn (5 ∷ replicate lastRegister 0) os)
+
+-- (i): a move moves what there is
+unfoldable pub moveReadings : List Case
+moveReadings =
+    -- where there is nothing it moves 0, and is accepted all the same
+    case (onRegisters 0 0 (move 3 0 1)) (0 ∷ 0 ∷ 0 ∷ [])
+    ∷ case (answers (fresh 1 0) (make 9 (move 3 0 1) ∷ execute ∷ [])) (refused.accepted ∷ refused.accepted ∷ [])
+    -- from a register to itself it stays refused, of any amount
+    ∷ case (answers (fresh 1 0) (make 9 (move 0 3 3) ∷ make 9 (move 4294967295 3 3) ∷ [])) (refused.badOperation ∷ refused.badOperation ∷ [])
+    -- handed to the registers, such a move writes q last, and so adds the amount moved
+    ∷ case (onRegisters 4 0 (move 3 0 0)) (3 ∷ 7 ∷ 0 ∷ [])
+    ∷ case (onRegisters 4 0 (move 9 0 0)) (4 ∷ 8 ∷ 0 ∷ [])
+    -- moves alone keep the sum of the registers: a set behind one changes it
+    ∷ case (sumAfter (move 5 0 1 ∷ []) ∷ sumAfter (move 5 0 1 ∷ setTo 2 1 ∷ []) ∷ []) (5 ∷ 6 ∷ [])
     ∷ []
