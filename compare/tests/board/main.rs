@@ -7,6 +7,7 @@ mod examples;
 mod faults;
 mod long_orders;
 mod long_shifts;
+mod moves;
 mod naive;
 mod own_clocks;
 mod random_bytes;
