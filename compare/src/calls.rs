@@ -4,6 +4,7 @@
 use std::fmt::Write;
 
 use crate::panel::{Answer, Panel};
+use crate::printout::MOST_BYTES;
 use crate::random::Call;
 use crate::refusal::ACCEPTED;
 use crate::request::*;
@@ -49,6 +50,22 @@ pub fn fresh(bytes: &[u8]) -> Panel {
 /// The bytes of each call.
 pub fn each(bytes: &[u8]) -> impl Iterator<Item = &[u8]> {
     bytes.get(CALLS_AT..).unwrap_or(&[]).chunks_exact(CALL_SIZE)
+}
+
+/// The messages of a printout's input as calls, each followed by all due steps.
+pub fn of_messages(input: &[u8]) -> Vec<Call> {
+    let input = &input[..input.len().min(MOST_BYTES)];
+    let mut calls = Vec::new();
+    let mut at = CALLS_AT;
+    while let Parsed::Message(message, taken) = wire::parse(input, at) {
+        let call = match message {
+            Message::Request(request) => Call::Hear(request),
+            Message::Settlement(number) => Call::Settle(number),
+        };
+        calls.extend([call, Call::RunDue]);
+        at += taken;
+    }
+    calls
 }
 
 /// Gives a panel a call that changes it.

@@ -2,9 +2,7 @@
 
 use crate::calls;
 use crate::panel::Panel;
-use crate::printout::MOST_BYTES;
 use crate::random::Call;
-use crate::wire::{parse, Message, Parsed};
 
 /// How many executed requests make an order long.
 pub const LONG: usize = 200;
@@ -50,17 +48,7 @@ impl LongChanges {
 
     /// Counts the messages of a printout's input.
     pub fn count_messages(&mut self, input: &[u8]) {
-        let input = &input[..input.len().min(MOST_BYTES)];
         let mut panel = calls::fresh(input);
-        let mut at = calls::CALLS_AT;
-        while let Parsed::Message(message, taken) = parse(input, at) {
-            let call = match message {
-                Message::Request(request) => Call::Hear(request),
-                Message::Settlement(number) => Call::Settle(number),
-            };
-            self.carry(&mut panel, &call);
-            panel.run_due();
-            at += taken;
-        }
+        calls::of_messages(input).iter().for_each(|call| self.carry(&mut panel, call));
     }
 }

@@ -8,6 +8,7 @@ pub mod cases;
 pub mod changes;
 pub mod difference;
 pub mod fields;
+pub mod moves;
 pub mod panel;
 pub mod printout;
 pub mod progress;

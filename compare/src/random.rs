@@ -4,7 +4,7 @@
 //! full of equal clocks and another of waiting contexts. The generator drives
 //! a panel of its own to know what would be interesting next: a due step, the
 //! wrong step, a settlement that is ready or one that waits, a clock that is
-//! put back.
+//! put back, a move of all that a register holds.
 
 use crate::changes::LONG;
 use crate::panel::Panel;
@@ -101,10 +101,14 @@ struct Habits {
     /// Own clocks that are put back behind the last own reading. It is drawn
     /// from a stream of its own, so that lists without makes stay as they are.
     back: usize,
+    /// Moves that are aimed at a limit. They are drawn from a stream of their
+    /// own and change the registers and the amount of these moves alone; the
+    /// stored inputs have none.
+    aimed: usize,
 }
 
 impl Habits {
-    fn draw(random: &mut Random) -> Habits {
+    fn draw(random: &mut Random, aims: &mut Random) -> Habits {
         Habits {
             clocks: random.one_of(&[
                 Clocks::Tied,
@@ -124,6 +128,59 @@ impl Habits {
             waiting: random.one_of(&[0, 10, 40]),
             skips: random.one_of(&[0, 10, 100]),
             back: random.fork().one_of(&[0, 10, 35, 60, 90]),
+            aimed: aims.one_of(&[0, 20, 50, 80]),
+        }
+    }
+}
+
+/// What a move is aimed at.
+#[derive(Clone, Copy)]
+enum Aim {
+    AllHeld,
+    OneMoreThanHeld,
+    FarMoreThanHeld,
+    ToTheTop,
+    OneShortOfTheTop,
+    OneMoreThanTheRoom,
+    Nothing,
+    IntoAFullOne,
+    FromAnEmptyOne,
+}
+
+impl Aim {
+    /// Those at the top come more often, since few registers suit them.
+    const DRAWN: [Aim; 15] = [
+        Aim::AllHeld,
+        Aim::OneMoreThanHeld,
+        Aim::FarMoreThanHeld,
+        Aim::ToTheTop,
+        Aim::ToTheTop,
+        Aim::ToTheTop,
+        Aim::OneShortOfTheTop,
+        Aim::OneShortOfTheTop,
+        Aim::OneShortOfTheTop,
+        Aim::OneMoreThanTheRoom,
+        Aim::OneMoreThanTheRoom,
+        Aim::OneMoreThanTheRoom,
+        Aim::Nothing,
+        Aim::IntoAFullOne,
+        Aim::FromAnEmptyOne,
+    ];
+
+    /// The amount to ask for, unless what r holds and the room in q do not suit
+    /// the aim.
+    fn amount(self, held: u32, room: u32, any: u32) -> Option<u32> {
+        match self {
+            Aim::AllHeld if 0 < held && held <= room => Some(held),
+            Aim::OneMoreThanHeld if 0 < held && held <= room => held.checked_add(1),
+            Aim::FarMoreThanHeld if 0 < held && held <= room => Some(held.saturating_add(any)),
+            Aim::ToTheTop if 0 < room && room <= held => Some(room),
+            Aim::OneShortOfTheTop if 1 < room && room <= held => Some(room - 1),
+            Aim::OneMoreThanTheRoom if 0 < room && room < held => Some(room + 1),
+            Aim::Nothing => Some(0),
+            Aim::IntoAFullOne if room == 0 && held > 0 => Some(any.max(1)),
+            Aim::FromAnEmptyOne if room > 0 && held == 0 => Some(any.max(1)),
+            _ => None,
         }
     }
 }
@@ -131,6 +188,8 @@ impl Habits {
 /// A list of calls for one panel, drawn one at a time.
 pub struct Shift {
     random: Random,
+    /// The stream that aimed moves are drawn from.
+    aims: Random,
     habits: Habits,
     panels: u8,
     own: u8,
@@ -149,9 +208,10 @@ impl Shift {
     }
 
     fn of_shop(mut random: Random, panels: u8, own: u8) -> Shift {
-        let habits = Habits::draw(&mut random);
+        let mut aims = random.fork();
+        let habits = Habits::draw(&mut random, &mut aims);
         let (_, shadow) = Panel::fresh(panels, own);
-        Shift { random, habits, panels, own, shadow, hour: 0, last_own: None }
+        Shift { random, aims, habits, panels, own, shadow, hour: 0, last_own: None }
     }
 
     /// What to call fresh with.
@@ -290,9 +350,27 @@ impl Shift {
             _ => {
                 let further = 1 + self.random.below(self.habits.registers - 1);
                 let q = (r as usize + further) % self.habits.registers;
-                Operation::new(MOVE, r, q as u8, self.amount())
+                let drawn = Operation::new(MOVE, r, q as u8, self.amount());
+                self.aimed_move(drawn)
             }
         }
+    }
+
+    /// The move as it is drawn, or aimed at a limit by what the registers hold
+    /// now, from its r and q on at the first two that suit.
+    fn aimed_move(&mut self, drawn: Operation) -> Operation {
+        if !self.aims.percent(self.habits.aimed) {
+            return drawn;
+        }
+        let (aim, any) = (self.aims.one_of(&Aim::DRAWN), self.aims.number32());
+        let (used, registers) = (self.habits.registers, self.shadow.registers());
+        let first = drawn.r as usize * used + drawn.q as usize;
+        let pairs = (first..first + used * used).map(|place| (place / used % used, place % used));
+        let found = pairs.filter(|(r, q)| r != q).find_map(|(r, q)| {
+            let amount = aim.amount(registers[r], u32::MAX - registers[q], any);
+            amount.map(|amount| Operation::new(MOVE, r as u8, q as u8, amount))
+        });
+        found.unwrap_or(drawn)
     }
 
     fn amount(&mut self) -> u32 {
@@ -517,9 +595,11 @@ pub fn shop(random: &mut Random) -> (u8, u8) {
     }
 }
 
-/// The calls of one shift and what to call fresh with.
+/// The calls of one shift as they are stored, without aimed moves, and what to
+/// call fresh with.
 pub fn calls(seed: u64, length: usize) -> (u8, u8, Vec<Call>) {
     let mut shift = Shift::new(seed);
+    shift.habits.aimed = 0;
     let (panels, own) = shift.shop();
     (panels, own, (0..length).map(|_| shift.next_call()).collect())
 }
@@ -861,6 +941,7 @@ pub fn observed(seed: u64, panels: u8, requests: usize) -> Vec<Message> {
     let mut shop = Shop::new(random.word(), panels);
     let mut works = Shift::of_shop(Random::new(random.word()), panels, 0);
     works.habits.damage = 0;
+    works.habits.aimed = 0;
     works.habits.registers = 6;
     let watching = panels as usize - 1;
     let mut seen = Vec::new();
@@ -907,6 +988,7 @@ pub fn awkward_input(seed: u64, panels: u8, own: u8, messages: usize) -> Vec<u8>
         damage: 16,
         waiting: 30,
         skips: 10,
+        aimed: 0,
         ..shift.habits
     };
     for _ in 1..messages {

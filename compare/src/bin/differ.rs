@@ -9,6 +9,7 @@ use mizzencord_compare::calls::{self, ANSWER_SIZE};
 use mizzencord_compare::cases;
 use mizzencord_compare::changes::{LongChanges, LONG};
 use mizzencord_compare::difference::{Case, Function, Outcome};
+use mizzencord_compare::moves::MoveLimits;
 use mizzencord_compare::progress::{progress, progress_ends};
 use mizzencord_compare::proved::Proved;
 use mizzencord_compare::random::Random;
@@ -33,6 +34,7 @@ struct Counts {
     refusals: [usize; REFUSALS],
     raised: usize,
     changes: LongChanges,
+    moves: MoveLimits,
     printouts: usize,
     printed: usize,
     readings: Tally,
@@ -91,6 +93,7 @@ impl Comparison {
                 }
                 if result > 0 {
                     counts.changes.count_calls(&case.bytes);
+                    counts.moves.count_calls(&case.bytes);
                 }
             }
             Function::Print => {
@@ -98,6 +101,7 @@ impl Comparison {
                 counts.printed += result;
                 if result > 0 {
                     counts.changes.count_messages(&case.bytes);
+                    counts.moves.count_messages(&case.bytes);
                 }
             }
             Function::Read => counts.readings.count(result),
@@ -199,6 +203,11 @@ fn summary(counts: &Counts) {
     println!(
         "changes of orders with {LONG} or more executed: \
          at the front {front}, in the middle {middle}, near the end {end}"
+    );
+    let MoveLimits { asked, held, room, at_the_top } = counts.moves;
+    println!(
+        "moves carried out: limited by the amount asked {asked}, by what r held {held}, \
+         by the room in q {room}; q at the top afterwards {at_the_top}"
     );
     println!("printouts: {} with {} bytes", counts.printouts, counts.printed);
     for (name, tally) in [("read", &counts.readings), ("written", &counts.writings)] {

@@ -1,7 +1,9 @@
 //! Moves of what there is: document 02's request (i).
 
+use mizzencord_compare::calls;
+use mizzencord_compare::moves::MoveLimits;
 use mizzencord_compare::panel::{Answer, Panel};
-use mizzencord_compare::random::Random;
+use mizzencord_compare::random::{Call, Random, Shift};
 use mizzencord_compare::request::*;
 
 use crate::build::*;
@@ -299,4 +301,102 @@ fn moves_alone_keep_the_sum_on_a_panel_that_undoes_and_redoes_them() {
         assert_eq!(panel.accepted_requests(), 64 + 60);
     }
     assert!(undos > 5_000 && moved > 5_000, "{undos} {moved}");
+}
+
+#[test]
+fn moves_are_counted_by_the_limit_that_decides() {
+    let counted = |asked: u32, held: u32, filled: u32| {
+        let mut panel = panel(2, 0);
+        let mut limits = MoveLimits::default();
+        for operation in [set(1, held), set(2, filled), shift(1, 2, asked)] {
+            limits.carry(&mut panel, &Call::Make(operation, false, Clock(1)));
+        }
+        limits.carry(&mut panel, &Call::RunDue);
+        (limits.asked, limits.held, limits.room, limits.at_the_top)
+    };
+    assert_eq!(counted(5, 5, 0), (1, 0, 0, 0));
+    assert_eq!(counted(6, 5, 0), (0, 1, 0, 0));
+    assert_eq!(counted(6, 5, TOP - 5), (0, 1, 0, 1));
+    assert_eq!(counted(5, 5, TOP - 5), (1, 0, 0, 1));
+    assert_eq!(counted(5, 5, TOP - 4), (0, 0, 1, 1));
+    assert_eq!(counted(1, 5, TOP), (0, 0, 1, 1));
+    assert_eq!(counted(0, 0, TOP), (1, 0, 0, 1));
+    // Undone and carried out again, a move counts twice, by its place.
+    let mut panel = panel(2, 0);
+    let mut limits = MoveLimits::default();
+    for call in [
+        Call::Make(shift(1, 2, 5), false, Clock(5)),
+        Call::CarryOut,
+        Call::CarryOut,
+        Call::Hear(weak(1, 1, 1, set(1, 5))),
+        Call::Undo,
+        Call::CarryOut,
+        Call::CarryOut,
+    ] {
+        limits.carry(&mut panel, &call);
+    }
+    assert_eq!((limits.asked, limits.held, limits.room, limits.at_the_top), (1, 1, 0, 0));
+}
+
+/// What the moves that random shifts carried out one by one were like.
+#[derive(Debug, Default)]
+struct Met {
+    all: usize,
+    /// Of all that r held, one more, and more than ten more.
+    drained: usize,
+    one_more_than_held: usize,
+    far_more_than_held: usize,
+    /// Just to the top, one short of it, and one more than the room.
+    filled: usize,
+    one_short: usize,
+    one_more_than_room: usize,
+    nothing: usize,
+    into_full: usize,
+    from_empty: usize,
+}
+
+impl Met {
+    fn count(&mut self, asked: u64, held: u64, room: u64) {
+        let some = asked > 0 && held > 0 && room > 0;
+        self.all += 1;
+        self.drained += (some && asked == held && held <= room) as usize;
+        self.one_more_than_held += (some && asked == held + 1 && held <= room) as usize;
+        self.far_more_than_held += (some && asked > held + 10 && held <= room) as usize;
+        self.filled += (some && asked == room && room <= held) as usize;
+        self.one_short += (some && asked + 1 == room && room <= held) as usize;
+        self.one_more_than_room += (some && asked == room + 1 && room < held) as usize;
+        self.nothing += (asked == 0) as usize;
+        self.into_full += (asked > 0 && held > 0 && room == 0) as usize;
+        self.from_empty += (asked > 0 && held == 0 && room > 0) as usize;
+    }
+}
+
+/// Counts the moves that a shift carries out one by one.
+fn count_moves(met: &mut Met, mut shift: Shift) {
+    let (panels, own) = shift.shop();
+    let mut panel = panel(panels, own);
+    for _ in 0..200 {
+        let call = shift.next_call();
+        let before = panel.registers().map(u64::from);
+        if matches!(call, Call::Register(_) | Call::RequestAt(_)) {
+            continue;
+        }
+        let answer = calls::carry(&mut panel, &call);
+        if call == Call::CarryOut && answer.refusal == 0 {
+            let Operation { code, r, q, amount } = panel.request(answer.number.slot()).operation;
+            if code == 5 {
+                met.count(amount as u64, before[r as usize], TOP as u64 - before[q as usize]);
+            }
+        }
+    }
+}
+
+#[test]
+fn random_shifts_meet_every_limit_of_a_move() {
+    let mut met = Met::default();
+    (0..600).for_each(|seed| count_moves(&mut met, Shift::new(seed)));
+    let held = [met.drained, met.one_more_than_held, met.far_more_than_held];
+    let room = [met.filled, met.one_short, met.one_more_than_room];
+    let none = [met.nothing, met.into_full, met.from_empty];
+    assert!([held, room, none].concat().iter().all(|count| *count > 40), "{met:?}");
 }
