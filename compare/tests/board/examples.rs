@@ -68,7 +68,7 @@ pub fn stored_case(folder: &str, name: &str) -> Vec<u8> {
 }
 
 /// Name and input of each case stored in a folder.
-fn stored_cases(folder: &str) -> Vec<(String, Vec<u8>)> {
+pub fn stored_cases(folder: &str) -> Vec<(String, Vec<u8>)> {
     let bytes = stored_in(folder, "stdin");
     let mut rest = bytes.as_slice();
     let mut cases = Vec::new();

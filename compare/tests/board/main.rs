@@ -15,5 +15,6 @@ mod random_calls;
 mod refusals;
 mod shop;
 mod steps;
+mod stored_moves;
 mod wire;
 mod worked;

@@ -13,7 +13,7 @@ const TOP: u32 = 4_294_967_295;
 
 /// The amount asked and what r and q hold before; what is moved and what they
 /// hold afterwards.
-const MOVES: [([u32; 3], [u32; 3]); 26] = [
+pub const MOVES: [([u32; 3], [u32; 3]); 26] = [
     // Document 01's three cases.
     ([5, 5, 0], [5, 0, 5]),
     ([6, 5, 0], [5, 0, 5]),

@@ -1,5 +1,6 @@
 //! The cases of the program `callcases`: lists of calls as docs/CALLS.md lays
-//! them out, most of them about own clocks that are put back.
+//! them out, most of them about own clocks that are put back, the last about
+//! moves.
 
 use mizzencord_compare::calls::{self, List, CALLS_AT, CALL_SIZE};
 use mizzencord_compare::printout::MOST_BYTES;
@@ -8,8 +9,8 @@ use mizzencord_compare::request::*;
 use mizzencord_compare::wire::{Message, WEAK_LENGTH};
 
 use crate::{
-    add, bytes_of, claim, heard_in_clock_order, set, settlement, shift, strong, strong_of, weak, Cases,
-    BAD_OPERATIONS, MOST_NAMED, WIDEST_SHOP,
+    add, bytes_of, claim, heard_in_clock_order, moves, set, settlement, shift, strong, strong_of, weak,
+    Cases, BAD_OPERATIONS, MOST_NAMED, WIDEST_SHOP,
 };
 
 pub fn cases() -> Cases {
@@ -28,6 +29,7 @@ pub fn cases() -> Cases {
     random_lists(&mut cases);
     limits(&mut cases);
     long_order(&mut cases);
+    moves::lists(&mut cases);
     cases
 }
 
@@ -35,31 +37,31 @@ pub fn cases() -> Cases {
 
 const TOP: u32 = u32::MAX;
 
-fn make(operation: Operation, clock: u32) -> Call {
+pub fn make(operation: Operation, clock: u32) -> Call {
     Call::Make(operation, false, Clock(clock))
 }
 
-fn make_strong(operation: Operation, clock: u32) -> Call {
+pub fn make_strong(operation: Operation, clock: u32) -> Call {
     Call::Make(operation, true, Clock(clock))
 }
 
-fn read(r: u8) -> Operation {
+pub fn read(r: u8) -> Operation {
     Operation::new(READ, r, 0, 0)
 }
 
 /// Hears a request or settles one.
-fn take(message: Message) -> Call {
+pub fn take(message: Message) -> Call {
     match message {
         Message::Request(request) => Call::Hear(request),
         Message::Settlement(number) => Call::Settle(number),
     }
 }
 
-fn settle(panel: u8, event: u8) -> Call {
+pub fn settle(panel: u8, event: u8) -> Call {
     take(settlement(panel, event))
 }
 
-fn list((panels, own): (u8, u8), calls: &[Call]) -> List {
+pub fn list((panels, own): (u8, u8), calls: &[Call]) -> List {
     let mut list = List::new(panels, own);
     calls.iter().for_each(|call| list.add(call));
     list
@@ -77,7 +79,7 @@ fn to_the_end(mut list: List, register: u8) -> Vec<u8> {
 }
 
 /// The calls with all single steps that are due after each.
-fn step_by_step((panels, own): (u8, u8), calls: &[Call]) -> List {
+pub fn step_by_step((panels, own): (u8, u8), calls: &[Call]) -> List {
     let mut list = List::new(panels, own);
     for call in calls {
         list.add(call);

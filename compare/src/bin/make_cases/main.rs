@@ -12,6 +12,7 @@ use mizzencord_compare::request::*;
 use mizzencord_compare::wire::{Message, SETTLEMENT_LENGTH, STRONG_LENGTH, WEAK_LENGTH};
 
 mod call_cases;
+mod moves;
 
 /// The most bytes that the name of a case can have.
 const MOST_NAMED: usize = 4_096;
@@ -100,6 +101,7 @@ fn cases() -> Cases {
     cases.add("as many bytes as count, the last message whole", full_input());
     late_in_long_orders(&mut cases);
     settled_in_long_orders(&mut cases);
+    moves::printouts(&mut cases);
     cases
 }
 
@@ -154,7 +156,7 @@ fn settlement(panel: u8, event: u8) -> Message {
     Message::Settlement(Number::new(panel, event))
 }
 
-fn set(r: u8, v: u32) -> Operation {
+const fn set(r: u8, v: u32) -> Operation {
     Operation::new(SET, r, 0, v)
 }
 
@@ -166,7 +168,7 @@ fn claim(r: u8, v: u32) -> Operation {
     Operation::new(CLAIM, r, 0, v)
 }
 
-fn shift(r: u8, q: u8, v: u32) -> Operation {
+const fn shift(r: u8, q: u8, v: u32) -> Operation {
     Operation::new(MOVE, r, q, v)
 }
 
