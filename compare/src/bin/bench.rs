@@ -97,12 +97,14 @@ struct Shift {
     heard: usize,
     falling: bool,
     settlements: bool,
+    /// Whether every second operation is a move.
+    moves: bool,
 }
 
 impl Shift {
     fn of(requests: usize, falling: bool, settlements: bool) -> Shift {
         let own = requests / PANELS;
-        Shift { own, heard: requests - own, falling, settlements }
+        Shift { own, heard: requests - own, falling, settlements, moves: false }
     }
 
     fn requests(&self) -> usize {
@@ -115,12 +117,30 @@ impl Shift {
         format!("{order}{settled}")
     }
 
-    fn operation(place: usize) -> Operation {
+    fn operation(&self, place: usize) -> Operation {
+        if self.moves {
+            return Shift::operation_among_moves(place);
+        }
         let r = (place % 7) as u8;
         match place % 4 {
             0 => Operation::new(SET, r, 0, place as u32 + 1),
             1 => Operation::new(ADD, r, 0, 3),
             2 => Operation::new(MOVE, r, r + 1, 1),
+            _ => Operation::new(CLAIM, r, 0, 9),
+        }
+    }
+
+    /// Every second one a move: most move all that is asked, some all that r
+    /// holds and some all that q has room for.
+    fn operation_among_moves(place: usize) -> Operation {
+        let (r, turn) = ((place % 7) as u8, place / 2);
+        if place % 2 == 1 {
+            return Operation::new(MOVE, r, (r + 2) % 7, [5, 50, 500][turn % 3]);
+        }
+        match turn % 4 {
+            0 => Operation::new(SET, r, 0, place as u32 + 1),
+            1 => Operation::new(ADD, r, 0, 30),
+            2 => Operation::new(SET, r, 0, u32::MAX - 300),
             _ => Operation::new(CLAIM, r, 0, 9),
         }
     }
@@ -135,7 +155,7 @@ impl Shift {
         Request {
             number: Number::new((place % (PANELS - 1)) as u8, (place / (PANELS - 1)) as u8 + 1),
             clock: Clock(clock as u32),
-            operation: Shift::operation(place),
+            operation: self.operation(place),
             strong: self.strong(place),
             context: NumberSet::EMPTY,
         }
@@ -145,7 +165,7 @@ impl Shift {
     /// would be raised to the last.
     fn make(&self, place: usize) -> Call {
         let clock = if self.falling { self.heard + place } else { place };
-        Call::Make(Shift::operation(place), self.strong(place), Clock(clock as u32))
+        Call::Make(self.operation(place), self.strong(place), Clock(clock as u32))
     }
 
     /// The strong requests in the order made and heard.
@@ -274,7 +294,7 @@ struct Single {
 
 fn single_calls(out: &mut [u8]) -> Single {
     let n = MOST_HEARD - 1;
-    let shift = Shift { own: 0, heard: n, falling: false, settlements: false };
+    let shift = Shift { own: 0, heard: n, falling: false, settlements: false, moves: false };
     let hears = shift.calls();
     let refused = call_time("refused calls", &[], &vec![Call::Undo; n], out);
     let heard = call_time("hears", &[], &hears, out);
@@ -336,37 +356,49 @@ fn find(all: &[Measured], requests: usize, falling: bool, settlements: bool) -> 
 }
 
 /// A due step: what the falling shift takes longer, by the steps it does more.
-fn due_step(out: &mut [u8]) -> Times {
-    let [falling, rising] = [true, false].map(|falling| Shift::of(MOST_HEARD + MOST_OWN, falling, false));
-    let times = run_time_more("due steps", &falling.calls_to_idle(), &rising.calls_to_idle(), out);
+fn due_step(name: &str, moves: bool, out: &mut [u8]) -> Times {
+    let full = |falling| Shift { moves, ..Shift::of(MOST_HEARD + MOST_OWN, falling, false) };
+    let [falling, rising] = [true, false].map(full);
+    let times = run_time_more(name, &falling.calls_to_idle(), &rising.calls_to_idle(), out);
     times.over(falling.steps() - rising.steps())
+}
+
+/// The full shift in falling order and settled, with every second operation a
+/// move.
+fn full_shift_of_moves(out: &mut [u8]) -> Times {
+    let shift = Shift { moves: true, ..Shift::of(MOST_HEARD + MOST_OWN, true, true) };
+    run_time("full shift of moves", &shift.calls_to_idle(), out)
 }
 
 /// The printout of what a panel hears at most, in falling order and settled.
 fn full_printout(out: &mut [u8]) -> Times {
-    let shift = Shift { own: 0, heard: MOST_HEARD, falling: true, settlements: true };
+    let shift = Shift { own: 0, heard: MOST_HEARD, falling: true, settlements: true, moves: false };
     print_time("printout", &shift.input(), out)
 }
 
 /// A message refused: what the messages take longer when each comes twice.
 fn refused_message(out: &mut [u8]) -> Times {
-    let once = Shift { own: 0, heard: MOST_HEARD, falling: false, settlements: false }.input();
+    let once = Shift { own: 0, heard: MOST_HEARD, falling: false, settlements: false, moves: false }.input();
     let twice = [&once[..], &once[2..]].concat();
     print_time_more("messages refused", &twice, &once, out).over(MOST_HEARD)
 }
 
 fn ratios(all: &[Measured], out: &mut [u8]) {
-    let step = due_step(out);
+    let step = due_step("due steps", false, out);
     let printout = full_printout(out);
     let refused = refused_message(out);
     let single = single_calls(out);
     let (read, write) = message_time(&mut [0; STRONG_LENGTH]);
     let copy = copy_time();
+    let step_of_moves = due_step("due steps of moves", true, out);
+    let full_of_moves = full_shift_of_moves(out);
     progress_ends();
     println!("| work | proved | handwritten | ratio | at most |\n|---|---|---|---|---|");
     row("a due step inside `run_due`", step, "1.5");
+    row("a due step inside `run_due`, every second operation a move", step_of_moves, "1.5");
     let full = find(all, MOST_HEARD + MOST_OWN, true, true);
     row("a full shift: 512 requests, falling, 64 settlements", full.times, "10; 1.5 in place");
+    row("a full shift, every second operation a move", full_of_moves, "10; 1.5 in place");
     row("a printout: 448 requests, falling, 56 settlements", printout, "");
     row("a message refused, with its line of a printout", refused, "");
     let two_copies = format!("{} (two copies)", time(2.0 * copy));
