@@ -68,9 +68,9 @@ pub struct Panel {
     settlements: usize,
 
     board: [u16; REQUESTS],
-    /// What registers r and q of a request held before it, by its place on
-    /// the board.
-    before: [[u32; 2]; REQUESTS],
+    /// What the registers of a request held before it, by its place on the
+    /// board.
+    before: [[u32; MOST_TOGETHER]; REQUESTS],
     on_board: usize,
     executed: usize,
     registers: [u32; REGISTERS],
@@ -114,7 +114,7 @@ impl Panel {
             committed_set: NumberSet::EMPTY,
             settlements: 0,
             board: [0; REQUESTS],
-            before: [[0; 2]; REQUESTS],
+            before: [[0; MOST_TOGETHER]; REQUESTS],
             on_board: 0,
             executed: 0,
             registers: [0; REGISTERS],
@@ -451,16 +451,11 @@ impl Panel {
         self.awaiting &= !(1 << (slot % EVENTS));
     }
 
-    /// Register q of an operation other than move is register 0, which then
-    /// takes back the value that it still has.
     #[inline]
     fn roll_back_top(&mut self) -> usize {
         self.on_board -= 1;
         let slot = self.board[self.on_board] as usize;
-        let operation = &self.operations[slot];
-        let [r, q] = self.before[self.on_board];
-        self.registers[operation.q as usize] = q;
-        self.registers[operation.r as usize] = r;
+        self.operations[slot].put_back(&self.before[self.on_board], &mut self.registers);
         self.undos_done += 1;
         slot
     }
@@ -470,7 +465,7 @@ impl Panel {
         let place = self.executed;
         let slot = self.order[place] as usize;
         let operation = &self.operations[slot];
-        self.before[place] = [self.registers[operation.r as usize], self.registers[operation.q as usize]];
+        operation.keep(&self.registers, &mut self.before[place]);
         let response = operation.execute(&mut self.registers);
         self.board[place] = slot as u16;
         self.on_board += 1;

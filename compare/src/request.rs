@@ -1,6 +1,8 @@
 //! Requests and their parts. Panel, event and clock are types of their own, so
 //! that a clock reading handed over where an event is due does not compile.
 
+use std::ops::Range;
+
 pub const PANELS: usize = 8;
 pub const EVENTS: usize = 64;
 pub const REQUESTS: usize = PANELS * EVENTS;
@@ -11,6 +13,10 @@ pub const SET: u8 = 2;
 pub const ADD: u8 = 3;
 pub const CLAIM: u8 = 4;
 pub const MOVE: u8 = 5;
+pub const CLAIM_TOGETHER: u8 = 6;
+
+/// The most registers that one request claims together.
+pub const MOST_TOGETHER: usize = 4;
 
 #[derive(Clone, Copy, Debug, Default, PartialEq, Eq, PartialOrd, Ord)]
 pub struct PanelNo(pub u8);
@@ -112,21 +118,27 @@ impl Operation {
     }
 
     pub fn is_bad(&self) -> bool {
-        if self.r as usize >= REGISTERS || self.q as usize >= REGISTERS {
+        let (r, q) = (self.r as usize, self.q as usize);
+        if r >= REGISTERS || q >= REGISTERS {
             return true;
         }
         match self.code {
-            READ => self.q != 0 || self.amount != 0,
-            SET | ADD => self.q != 0,
-            CLAIM => self.q != 0 || self.amount == 0,
-            MOVE => self.r == self.q,
+            READ => q != 0 || self.amount != 0,
+            SET | ADD => q != 0,
+            CLAIM => q != 0 || self.amount == 0,
+            MOVE => r == q,
+            CLAIM_TOGETHER => !(r..r + MOST_TOGETHER).contains(&q) || self.amount == 0,
             _ => true,
         }
     }
 
-    /// Carries out a good operation and gives its response.
+    /// Carries out a good operation and gives its response. Code 6 is told apart
+    /// first, since one more case among the others makes all of them slower.
     #[inline]
     pub fn execute(&self, registers: &mut [u32; REGISTERS]) -> u32 {
+        if self.code == CLAIM_TOGETHER {
+            return self.execute_claim_together(registers);
+        }
         let r = self.r as usize;
         match self.code {
             READ => registers[r],
@@ -154,6 +166,49 @@ impl Operation {
         registers[r] -= moved;
         registers[q] += moved;
         moved
+    }
+
+    /// Claims r to q if all of them are 0, and gives the amount or else what
+    /// the lowest one held has.
+    fn execute_claim_together(&self, registers: &mut [u32; REGISTERS]) -> u32 {
+        let claimed = &mut registers[self.r as usize..=self.q as usize];
+        match claimed.iter().find(|value| **value != 0) {
+            Some(held) => *held,
+            None => {
+                claimed.fill(self.amount);
+                self.amount
+            }
+        }
+    }
+
+    /// Keeps the values that a good operation may change: those of r and q, or
+    /// those of the neighbours that it claims together.
+    #[inline]
+    pub fn keep(&self, registers: &[u32; REGISTERS], before: &mut [u32; MOST_TOGETHER]) {
+        if self.code == CLAIM_TOGETHER {
+            before.copy_from_slice(&registers[self.neighbours()]);
+        } else {
+            before[0] = registers[self.r as usize];
+            before[1] = registers[self.q as usize];
+        }
+    }
+
+    /// Puts back the values that were kept. Register q of codes 1 to 4 is
+    /// register 0, which then takes back the value that it still has.
+    #[inline]
+    pub fn put_back(&self, before: &[u32; MOST_TOGETHER], registers: &mut [u32; REGISTERS]) {
+        if self.code == CLAIM_TOGETHER {
+            registers[self.neighbours()].copy_from_slice(before);
+        } else {
+            registers[self.q as usize] = before[1];
+            registers[self.r as usize] = before[0];
+        }
+    }
+
+    /// Four neighbours with all that is claimed together among them.
+    fn neighbours(&self) -> Range<usize> {
+        let first = (self.r as usize).min(REGISTERS - MOST_TOGETHER);
+        first..first + MOST_TOGETHER
     }
 }
 

@@ -23,6 +23,10 @@ pub fn shift(r: u8, q: u8, v: u32) -> Operation {
     Operation::new(5, r, q, v)
 }
 
+pub fn claim_together(r: u8, q: u8, v: u32) -> Operation {
+    Operation::new(6, r, q, v)
+}
+
 pub fn weak(panel: u8, event: u8, clock: u32, operation: Operation) -> Request {
     Request {
         number: Number::new(panel, event),

@@ -1,6 +1,7 @@
 //! Tests of the panel, the bus messages and the printout.
 
 mod build;
+mod claims;
 mod difference;
 mod edges;
 mod examples;

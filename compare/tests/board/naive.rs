@@ -1,5 +1,5 @@
-//! Algorithm 1 with document 01's refusals and document 02's requests (b) and
-//! (i), as literally as it goes: lists are vectors of whole requests and every
+//! Algorithm 1 with document 01's refusals and document 02's requests (b), (g)
+//! and (i), as literally as it goes: lists are vectors of whole requests and every
 //! value comes from a replay on a zero board. There is no undo log, no saved
 //! register and no count of own requests.
 
@@ -46,14 +46,16 @@ fn set_of(numbers: &[(u8, u8)]) -> NumberSet {
 
 pub fn good(op: &Operation) -> bool {
     let Operation { code, r, q, amount } = *op;
-    if !(1..=5).contains(&code) || r > 63 || q > 63 {
+    if !(1..=6).contains(&code) || r > 63 || q > 63 {
         return false;
     }
-    let plain_q = code == 5 || q == 0;
+    let plain_q = code >= 5 || q == 0;
     let read_amount = code != 1 || amount == 0;
-    let claim_amount = code != 4 || amount != 0;
+    let claim_amount = (code != 4 && code != 6) || amount != 0;
     let distinct = code != 5 || r != q;
-    plain_q && read_amount && claim_amount && distinct
+    let claimed = q as i32 - r as i32 + 1;
+    let one_to_four = code != 6 || (1..=4).contains(&claimed);
+    plain_q && read_amount && claim_amount && distinct && one_to_four
 }
 
 /// The most that a register holds.
@@ -87,8 +89,25 @@ pub fn run(op: &Operation, board: &mut [u64; 64]) -> u32 {
             board[q] = whole - back;
             (taken - back) as u32
         }
+        6 => claim_together(r, q, v, board) as u32,
         _ => unreachable!(),
     }
+}
+
+fn claim_together(r: usize, q: usize, v: u64, board: &mut [u64; 64]) -> u64 {
+    // Past the free ones: the lowest held, or q where all are free.
+    let mut at = r;
+    while board[at] == 0 && at < q {
+        at += 1;
+    }
+    if board[at] == 0 {
+        let mut left = q - r + 1;
+        while left > 0 {
+            left -= 1;
+            board[r + left] = v;
+        }
+    }
+    board[at]
 }
 
 /// The board after some requests in turn, and the last one's response.

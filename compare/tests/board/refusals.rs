@@ -27,6 +27,7 @@ fn bad_operations() {
     let bad = [
         Operation::new(0, 0, 0, 0),
         Operation::new(6, 0, 0, 0),
+        Operation::new(7, 0, 0, 0),
         Operation::new(255, 0, 0, 0),
         Operation::new(1, 64, 0, 0),
         Operation::new(5, 0, 64, 0),

@@ -7,7 +7,8 @@ use Rattle.sets.specs.Sets.{sameWords, sameContext, allZero, isEmpty, namesFrom
 use Rattle.sets.specs.Sets.{lackedWords, difference, subset}
 use Rattle.request.specs.Order.{before}
 use Rattle.request.specs.Request.{sameRequest, badContext}
-use Rattle.registers.specs.Effect.{offBoard, added, claimed, amountMoved, moved, exec, response}
+use Rattle.registers.specs.Effect.{offBoard, added, claimed, amountMoved, moved, firstHeld, lowestHeld, allSet, allClaimed}
+use Rattle.registers.specs.Effect.{allClaimedResponse, exec, response}
 use Rattle.registers.specs.Replay.{replayOn, replay}
 use Rattle.creek.specs.Plan.{lastEvent, lastClock, entered, without, atLeast, made, committing, committingFound}
 use Rattle.creek.specs.Plan.{invokeRefusal, deliverRefusal, commitRefusal}
@@ -19,16 +20,16 @@ use Rattle.creek.specs.Calls.{badShop, freshRefusal, fresh, accept, step
 use Rattle.creek.specs.History.{run, settleDown}
 use Rattle.creek.specs.Showing.{registerShown}
 use Rattle.creek.specs.Demand.{mostUndos}
-use Rattle.creek.specs.Examples.{Case, onRegisters, answers, spreads, eventsAndClocks, numbers, driven}
+use Rattle.creek.specs.Examples.{Case, onRegisters, onBoard, answers, spreads, eventsAndClocks, numbers, driven}
 use Rattle.creek.specs.Cases.{standing, worked, afterWorked, nineNineEight, cases}
 use Rattle.creek.specs.Faults.{strongHeard, twiceChanged, overtaken, falling, overtaking, faults, reaching}
 use Rattle.creek.specs.Readings.{madeAndHeard, readings, sumAfter, moveReadings}
 
 pub edge-cases : map (λ (c : Case). c .computed) cases ≡ map (λ (c : Case). c .said) cases
-unfolding cases standing worked afterWorked nineNineEight onRegisters answers spreads eventsAndClocks numbers driven freshRefusal
+unfolding cases standing worked afterWorked nineNineEight onRegisters onBoard answers spreads eventsAndClocks numbers driven freshRefusal
     sameNumber badNumber sameOperation badOperation sameWords sameContext allZero isEmpty namesFrom bit member join leave
-    lackedWords difference subset before sameRequest badContext offBoard added claimed amountMoved moved exec response replayOn replay
-    lastEvent lastClock entered atLeast made committing committingFound invokeRefusal deliverRefusal commitRefusal registers
+    lackedWords difference subset before sameRequest badContext offBoard added claimed amountMoved moved firstHeld lowestHeld allSet
+    allClaimed allClaimedResponse exec response replayOn replay lastEvent lastClock entered atLeast made committing committingFound invokeRefusal deliverRefusal commitRefusal registers
     adjusted undone undoRefusal executedNext executeRefusal refusal accepted acceptedAnswer settlementReply stableReplyDue
     namedByRefusal answerOf acceptedAwaiting badShop fresh accept step run settleDown registerShown
 edge-cases = refl

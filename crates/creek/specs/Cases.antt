@@ -3,17 +3,19 @@
 -- That the two are equal is `edge-cases` in `proofs/Cases`.
 use Prim.Native.Nat.{ℕ}
 use mathlib.Core.List.{List, [], _∷_, _++_}
-use lib.ListN.{replicate}
+use lib.ListN.{set, replicate}
 use Rattle.numbers.specs.Numbers.{numbered}
 use Rattle.sets.specs.Sets.{emptySet, join}
 use Rattle.request.specs.Refusal as refused
+use Rattle.registers.specs.Replay.{zeroBoard}
+use Rattle.registers.specs.Claims.{claimAll}
 use Rattle.creek.specs.Plan.{order}
 use Rattle.creek.specs.Book.{Call, deliver, commit}
 use Rattle.creek.specs.Calls.{Replica, freshRefusal, fresh}
 use Rattle.creek.specs.History.{run}
 use Rattle.creek.specs.Showing.{registerShown, undosShown, executionsShown}
-use Rattle.creek.specs.Examples.{Case, case, read, setTo, add, claim, move, weak, strong, make, onRegisters, answers}
-use Rattle.creek.specs.Examples.{spreads, eventsAndClocks, numbers, driven}
+use Rattle.creek.specs.Examples.{Case, case, read, setTo, add, claim, move, weak, strong, make, onRegisters, onBoard}
+use Rattle.creek.specs.Examples.{answers, spreads, eventsAndClocks, numbers, driven}
 
 -- the printout's input for panel 2 of 3
 unfoldable pub worked : List Call
@@ -59,6 +61,15 @@ cases =
     -- move with r = q: 3
     ∷ case (answers (fresh 2 0) (make 0 (move 1 3 3) ∷ deliver (weak 1 1 0 (move 1 3 3)) ∷ []))
     (refused.badOperation ∷ refused.badOperation ∷ [])
+    -- document 02's request (g): claim 60 to 63 for 7 where all are 0: response 7, each of the four 7
+    ∷ case (onBoard zeroBoard (claimAll 60 63 7)) (7 ∷ replicate 60 0 ++ replicate 4 7)
+    -- where 62 holds 3: response 3, unchanged
+    ∷ case (onBoard (set zeroBoard 62 3) (claimAll 60 63 7)) (3 ∷ replicate 62 0 ++ 3 ∷ 0 ∷ [])
+    -- claim 5 to 5 for 7: response 7, register 5 alone is 7
+    ∷ case (onBoard zeroBoard (claimAll 5 5 7)) (7 ∷ replicate 5 0 ++ 7 ∷ replicate 58 0)
+    -- claim 61 to 64: 3
+    ∷ case (answers (fresh 2 0) (make 0 (claimAll 61 64 7) ∷ deliver (weak 1 1 0 (claimAll 61 64 7)) ∷ []))
+    (refused.badOperation ∷ refused.badOperation ∷ [])
     -- equal clocks: 0/9 stands before 1/1, whichever is heard first
     ∷ case (standing (deliver (weak 1 1 7 (read 0)) ∷ deliver (weak 0 9 7 (read 0)) ∷ [])) (0 ∷ 9 ∷ 1 ∷ 1 ∷ [])
     ∷ case (standing (deliver (weak 0 9 7 (read 0)) ∷ deliver (weak 1 1 7 (read 0)) ∷ [])) (0 ∷ 9 ∷ 1 ∷ 1 ∷ [])
@@ -71,6 +82,9 @@ cases =
     -- heard twice 7; with another clock 8
     ∷ case (answers (fresh 3 2) (deliver (weak 1 1 5 (add 3 4)) ∷ deliver (weak 1 1 5 (add 3 4)) ∷ deliver (weak 1 1 6 (add 3 4)) ∷ []))
     (refused.accepted ∷ refused.heldAlready ∷ refused.numberClash ∷ [])
+    -- of code 6 and heard again of code 4, with the same effect: 8
+    ∷ case (answers (fresh 3 2) (deliver (weak 1 1 5 (claimAll 5 5 7)) ∷ deliver (weak 1 1 5 (claim 5 7)) ∷ []))
+    (refused.accepted ∷ refused.numberClash ∷ [])
     -- the same settlement again: 11
     ∷ case (answers (fresh 3 2) (worked ++ commit (numbered 1 2) ∷ [])) (replicate 4 refused.accepted ++ refused.settledAlready ∷ [])
     -- the order after the printout's input: 1/1, 1/2, 0/1

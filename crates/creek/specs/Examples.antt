@@ -78,6 +78,10 @@ onRegisters v w o =
     let before = v ∷ w ∷ replicate 62 0 in
     response o before ∷ getD (exec o before) 0 0 ∷ getD (exec o before) 1 0 ∷ []
 
+-- an operation on those registers: its response, and all registers afterwards
+unfoldable pub onBoard : List ℕ → Operation → List ℕ
+onBoard b o = response o b ∷ exec o b
+
 -- the refusal numbers of those calls, in turn
 unfoldable pub answers : Replica → List Call → List ℕ
 answers r [] = []

@@ -1,23 +1,27 @@
 -- Laws of one operation on the registers, in this order: the registers that one on the board names; the outcomes of an operation, one law
 -- each; what every operation keeps; and that rolling back restores the registers from before.
 -- How an operation keeps what it keeps is in `FrameLaws`, laws of many operations in turn are in `ReplayLaws`, of moves alone in
--- `AmountLaws` and `SumLaws`.
+-- `AmountLaws` and `SumLaws`, of claims of registers together in `SpanLaws` and `ClaimLaws`.
 use Prim.Native.Nat.{ℕ, _≤_, _<_}
 use native.Mathlib.Decide.{ℕ-discrete}
 use native.Mathlib.Omega.{arith}
-use mathlib.Core.Path.{_≡_, refl, sym, _∙_}
+use mathlib.Core.Path.{_≡_, refl, sym, ap, _∙_}
 use mathlib.Core.Logic.{_≢_}
-use mathlib.Core.Bool.{Bool, true, false}
+use mathlib.Core.Bool.{Bool, true, false, cond}
 use mathlib.Core.List.{List}
 use lib.ListN.{length, getD, set, length-set}
 use lib.Seq.{getD-set-same, getD-set-other, set-getD, ext-getD}
-use borrow.Author.Tests.{ltb-false, ne-eqb}
+use lib.Dec.{eqb}
+use borrow.Author.Tests.{ltb-false, eqb-true, eqb-false, ne-eqb}
 use Rattle.request.specs.declared.Operation.{Operation}
-use Rattle.request.specs.Operations.{codeRead, codeSet, codeAdd, codeClaim, codeMove, lastRegister}
+use Rattle.request.specs.Operations.{codeRead, codeSet, codeAdd, codeClaim, codeMove, codeClaimAll, lastRegister, span}
 use Rattle.lists.proofs.BoolLaws.{neither-true}
-use Rattle.registers.specs.Effect.{range, offBoard, added, claimed, amountMoved, moved, exec, response, Executed}
-use Rattle.registers.specs.Rollback.{savedOf, restored}
-use Rattle.registers.proofs.FrameLaws.{InRange, exec-keeps}
+use Rattle.registers.specs.declared.Saved.{Saved}
+use Rattle.registers.specs.Effect.{range, offBoard, added, claimed, amountMoved, moved, lowestHeld, allSet, allClaimed}
+use Rattle.registers.specs.Effect.{allClaimedResponse, exec, response, names, Executed}
+use Rattle.registers.specs.Rollback.{savedOf, notTaken, restored}
+use Rattle.registers.proofs.FrameLaws.{InRange, named-neither, exec-keeps}
+use Rattle.registers.proofs.SpanLaws.{inside-or-apart, all-zero, set-outside, set-back, set-unseen, none-named}
 
 -- ---- on the board
 
@@ -65,17 +69,28 @@ module _ (o : Operation) (b : List ℕ) where
     unfolding exec response
     executed-move e = record { effect = simp (on, e); response = simp (on, e) }
 
+    pub executed-claim-all : o .code ≡ codeClaimAll → lowestHeld o b ≡ 0 → Executed o b (allSet o (o .amount) b) (o .amount)
+    unfolding exec response allClaimed allClaimedResponse
+    executed-claim-all e z = record { effect = simp (on, e, z); response = simp (on, e, z) }
+
+    pub executed-no-claim-all : o .code ≡ codeClaimAll → lowestHeld o b ≢ 0 → Executed o b b (lowestHeld o b)
+    unfolding exec response allClaimed allClaimedResponse
+    executed-no-claim-all e n =
+        let held = ne-eqb _ _ n in
+        record { effect = simp (on, e, held); response = simp (on, e, held) }
+
     pub executed-unknown : o .code ≢ codeRead → o .code ≢ codeSet → o .code ≢ codeAdd → o .code ≢ codeClaim → o .code ≢ codeMove
-        → Executed o b b 0
+        → o .code ≢ codeClaimAll → Executed o b b 0
     unfolding exec response
-    executed-unknown r s a c m =
+    executed-unknown r s a c m t =
         let no-set = ne-eqb _ _ s in
         let no-add = ne-eqb _ _ a in
         let no-claim = ne-eqb _ _ c in
         let no-move = ne-eqb _ _ m in
+        let no-claim-all = ne-eqb _ _ t in
         record {
-          effect = simp (on, no-set, no-add, no-claim, no-move);
-          response = simp (on, ne-eqb _ _ r, no-set, no-add, no-claim, no-move);
+          effect = simp (on, no-set, no-add, no-claim, no-move, no-claim-all);
+          response = simp (on, ne-eqb _ _ r, no-set, no-add, no-claim, no-move, no-claim-all);
         }
 
 -- ---- what every operation keeps
@@ -85,7 +100,7 @@ module _ (o : Operation) (b : List ℕ) where
   exec-length = exec-keeps o b .count
 
   -- an operation changes no register that it does not name
-  pub exec-frame : (k : ℕ) → k ≢ o .r → k ≢ o .q → getD (exec o b) k 0 ≡ getD b k 0
+  pub exec-frame : (k : ℕ) → names o k ≡ false → getD (exec o b) k 0 ≡ getD b k 0
   exec-frame = exec-keeps o b .others
 
   pub exec-in-range : o .amount < range → InRange b → InRange (exec o b)
@@ -106,11 +121,58 @@ module _ (b c : List ℕ) (r q : ℕ) (long : length c ≡ length b) (others : (
   put-back : set r-back q (getD b q 0) ≡ b
   put-back = ext-getD 0 _ b (simp length-set long) (λ k h. put-back-at k (simp length-set at h) (ℕ-discrete k q) (ℕ-discrete k r))
 
+-- a claim of registers together: where it took them they were 0 and are 0 again, and where it did not nothing is put back
+module _ (o : Operation) (b : List ℕ) (on : offBoard o ≡ false) (code : o .code ≡ codeClaimAll) where
+  abbrev saved : Saved
+  saved = record { r = getD b (o .r) 0; q = getD b (o .q) 0 }
+
+  abbrev claim-restored : List ℕ → List ℕ
+  claim-restored c = cond (notTaken o saved c) c (allSet o (saved .q) c)
+
+  restored-held : claim-restored b ≡ b
+  unfolding notTaken
+  restored-held = go (eqb (getD b (o .r) 0) 0) refl
+    where
+      go : (t : Bool) → eqb (getD b (o .r) 0) 0 ≡ t → claim-restored b ≡ b
+      go true e = simp e
+      go false e = simp e
+
+  abbrev taken : List ℕ
+  taken = allSet o (o .amount) b
+
+  -- where r was 0 and is not, q is one of the registers claimed, which were 0
+  q-was-zero : lowestHeld o b ≡ 0 → getD b (o .r) 0 ≡ 0 → getD taken (o .r) 0 ≢ 0 → getD b (o .q) 0 ≡ 0
+  unfolding allSet lowestHeld
+  q-was-zero free before after =
+      inside-or-apart (span o) (o .r) (o .r)
+      (λ low high. all-zero (span o) (o .r) b free (o .q) (omega arith) (omega arith))
+      (λ apart. absurd (after (set-outside (span o) (o .r) (o .amount) b (o .r) apart ∙ before)))
+
+  restored-free : lowestHeld o b ≡ 0 → claim-restored taken ≡ b
+  unfolding notTaken allSet lowestHeld
+  restored-free free = go (eqb (getD b (o .r) 0) 0) (eqb (getD taken (o .r) 0) 0) refl refl
+    where
+      go : (s t : Bool) → eqb (getD b (o .r) 0) 0 ≡ s → eqb (getD taken (o .r) 0) 0 ≡ t → claim-restored taken ≡ b
+      go true true e f = simp (e, f) (set-unseen (span o) (o .r) (o .amount) b free (eqb-true _ _ f))
+      go true false e f =
+          simp (e, f)
+          (rw (q-was-zero free (eqb-true _ _ e) (eqb-false _ _ f)) (set-back (span o) (o .r) (o .amount) b free))
+      go false t e f = simp e (rw (none-named (span o) (o .r) b free (eqb-false _ _ e)) refl)
+
+  claim-put-back : claim-restored (exec o b) ≡ b
+  claim-put-back = go (ℕ-discrete (lowestHeld o b) 0)
+    where
+      go : Dec (lowestHeld o b ≡ 0) → claim-restored (exec o b) ≡ b
+      go (yes free) = ap claim-restored (sym (executed-claim-all o b on code free .effect)) ∙ restored-free free
+      go (no held) = ap claim-restored (sym (executed-no-claim-all o b on code held .effect)) ∙ restored-held
+
 -- what was saved before an operation, put back after it, gives the registers from before
 pub rolled-back : (o : Operation) (b : List ℕ) → restored o (savedOf o b) (exec o b) ≡ b
 unfolding restored savedOf
-rolled-back o b = go (offBoard o) refl
+rolled-back o b = go (offBoard o) (eqb (o .code) codeClaimAll) refl refl
   where
-    go : (t : Bool) → offBoard o ≡ t → restored o (savedOf o b) (exec o b) ≡ b
-    go true off = simp off (sym (executed-off o b off .effect))
-    go false on = simp on (put-back b (exec o b) (o .r) (o .q) (exec-length o b) (exec-frame o b))
+    go : (s t : Bool) → offBoard o ≡ s → eqb (o .code) codeClaimAll ≡ t → restored o (savedOf o b) (exec o b) ≡ b
+    go true t off e = simp off (sym (executed-off o b off .effect))
+    go false true on e = simp (on, e) (claim-put-back o b on (eqb-true _ _ e))
+    go false false on e =
+        simp (on, e) (put-back b (exec o b) (o .r) (o .q) (exec-length o b) (λ k r q. exec-frame o b k (named-neither o e k r q)))

@@ -1,16 +1,25 @@
 -- What is saved before an operation, and the registers after a rollback from it.
 use Prim.Native.Nat.{ℕ}
-use mathlib.Core.Bool.{cond}
+use mathlib.Core.Bool.{Bool, not, _||_, cond}
 use mathlib.Core.List.{List}
 use lib.ListN.{getD, set}
+use lib.Dec.{eqb}
 use Rattle.request.specs.declared.Operation.{Operation}
+use Rattle.request.specs.Operations.{codeClaimAll}
 use Rattle.registers.specs.declared.Saved.{Saved}
-use Rattle.registers.specs.Effect.{offBoard}
+use Rattle.registers.specs.Effect.{offBoard, allSet}
 
 -- what is saved before o on the registers b: the values of r and q, and zeros for an operation off the board
 unfoldable pub savedOf : Operation → List ℕ → Saved
 savedOf o b = cond (offBoard o) (record { r = 0; q = 0 }) (record { r = getD b (o .r) 0; q = getD b (o .q) 0 })
 
--- the registers b with what was saved before o put back
+-- a claim of registers together, before which s was saved, has not taken them: r was held, or is still 0
+unfoldable pub notTaken : Operation → Saved → List ℕ → Bool
+notTaken o s b = not (eqb (s .r) 0) || eqb (getD b (o .r) 0) 0
+
+-- the registers b with what was saved before o put back: r and q; after a claim of registers together that took them, all of them as q was
 unfoldable pub restored : Operation → Saved → List ℕ → List ℕ
-restored o s b = cond (offBoard o) b (set (set b (o .r) (s .r)) (o .q) (s .q))
+restored o s b =
+    cond (offBoard o) b
+    (cond (eqb (o .code) codeClaimAll) (cond (notTaken o s b) b (allSet o (s .q) b))
+    (set (set b (o .r) (s .r)) (o .q) (s .q)))

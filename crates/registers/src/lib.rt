@@ -6,11 +6,12 @@ use request::Operation;
 use request::operations;
 ghost use Prim.Native.Nat.{_+_, _-_, min};
 ghost use mathlib.Core.Path.{_≡_};
-ghost use Rattle.registers.specs.Effect.{range, offBoard, MoveOnBoard, Executed};
+ghost use mathlib.Core.Bool.{false};
+ghost use Rattle.registers.specs.Effect.{range, offBoard, lowestHeld, allSet, MoveOnBoard, ClaimOnBoard, Executed};
 ghost use Rattle.registers.specs.Rollback.{savedOf, restored};
 ghost use Rattle.registers.specs.Replay.{zeroBoard};
 
-// The values, from before an operation, of the registers that it names. Only this crate looks inside.
+// The values of registers r and q from before an operation. Only this crate looks inside.
 pub struct Saved {
     r: u32,
     q: u32,
@@ -68,6 +69,9 @@ pub fn execute(registers: &mut [u32; 64], o: Operation) -> u32
     if code == operations::MOVE {
         return execute_move(registers, o);
     }
+    if code == operations::CLAIM_ALL {
+        return execute_claim_all(registers, o);
+    }
     0
 }
 
@@ -106,11 +110,60 @@ fn lesser(a: u32, b: u32) -> u32
     b
 }
 
+// Executes a claim of registers r to q: all become the amount, or none changes.
+fn execute_claim_all(registers: &mut [u32; 64], o: Operation) -> u32
+    requires { ⌜ ClaimOnBoard o ⌝ }
+    ensures { λ x. ⌜ Executed o (now (registers .entry)) (now (registers .exit)) x ⌝ }
+{
+    let held = lowest_held(registers, o);
+    if held != 0 {
+        return held;
+    }
+    set_all(registers, o, o.amount);
+    o.amount
+}
+
+// The value of the lowest-numbered register from r to q that is not 0, or 0 where all of them are.
+fn lowest_held(registers: &[u32; 64], o: Operation) -> u32
+    requires { ⌜ offBoard o ≡ false ⌝ }
+    ensures { λ x. ⌜ x ≡ lowestHeld o (now (registers .entry)) ⌝ }
+{
+    let end = o.q as usize + 1;
+    let mut k = o.r as usize;
+    let mut held = 0;
+    while (held == 0) & (k < end) {
+        held = registers[k];
+        k += 1;
+    }
+    held
+}
+
+// Sets all of registers r to q to v.
+fn set_all(registers: &mut [u32; 64], o: Operation, v: u32)
+    requires { ⌜ offBoard o ≡ false ⌝ }
+    ensures { λ _. ⌜ now (registers .exit) ≡ allSet o v (now (registers .entry)) ⌝ }
+{
+    let end = o.q as usize + 1;
+    let mut at = o.r as usize;
+    while at < end {
+        registers[at] = v;
+        at += 1;
+    }
+}
+
 // Puts back what was saved before o.
 pub fn rollback(registers: &mut [u32; 64], o: Operation, s: Saved)
     ensures { λ _. ⌜ now (registers .exit) ≡ restored o s (now (registers .entry)) ⌝ }
 {
     if off_board(o) {
+        return;
+    }
+    if o.code == operations::CLAIM_ALL {
+        let held = registers[o.r as usize];
+        if (s.r != 0) | (held == 0) {
+            return;
+        }
+        set_all(registers, o, s.q);
         return;
     }
     registers[o.r as usize] = s.r;

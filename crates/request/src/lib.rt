@@ -13,7 +13,7 @@ use sets::Context;
 ghost use mathlib.Core.Path.{_≡_};
 ghost use Rattle.request.specs.Request.{sameRequest, badContext};
 
-// An operation on register r or, under a move, from register r to register q.
+// An operation on register r; under a move, from register r to register q; under a claim of registers together, on r to q.
 pub struct Operation {
     pub code: u8,
     pub r: u8,

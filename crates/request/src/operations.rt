@@ -1,7 +1,7 @@
 // Operations: their codes, equality, and the test behind refusal 3.
 use super::Operation;
 ghost use mathlib.Core.Path.{_≡_};
-ghost use Rattle.request.specs.Operations.{sameOperation, badOperation};
+ghost use Rattle.request.specs.Operations.{span, sameOperation, badOperation};
 
 pub const READ: u8 = 1;
 
@@ -13,8 +13,30 @@ pub const CLAIM: u8 = 4;
 
 pub const MOVE: u8 = 5;
 
+// A claim of registers r to q together.
+pub const CLAIM_ALL: u8 = 6;
+
+// The last code of document 01's table; document 02's recipes have none behind it.
+pub const LAST_TABLE_CODE: u8 = MOVE;
+
+// The last code there is.
+pub const LAST_CODE: u8 = CLAIM_ALL;
+
 // The last register.
 pub const LAST_REGISTER: u8 = 63;
+
+// The most registers that are claimed together.
+pub const MOST_CLAIMED: usize = 4;
+
+// How many registers r to q are: none where r is above q.
+fn span(o: Operation) -> usize
+    ensures { λ n. ⌜ n ≡ span o ⌝ }
+{
+    if o.q < o.r {
+        return 0;
+    }
+    (o.q - o.r) as usize + 1
+}
 
 // Whether all fields of a and b are equal.
 pub fn same(a: Operation, b: Operation) -> bool
@@ -27,11 +49,17 @@ pub fn same(a: Operation, b: Operation) -> bool
 pub fn bad(o: Operation) -> bool
     ensures { λ r. ⌜ r ≡ badOperation o ⌝ }
 {
-    !((READ <= o.code) & (o.code <= MOVE))
-        | (LAST_REGISTER < o.r)
-        | (LAST_REGISTER < o.q)
-        | ((o.code <= CLAIM) & (o.q != 0))
-        | ((o.code == READ) & (o.amount != 0))
-        | ((o.code == CLAIM) & (o.amount == 0))
-        | ((o.code == MOVE) & (o.r == o.q))
+    let code = o.code;
+    let r = o.r;
+    let q = o.q;
+    let amount = o.amount;
+    let registers = span(o);
+    !((READ <= code) & (code <= LAST_CODE))
+        | (LAST_REGISTER < r)
+        | (LAST_REGISTER < q)
+        | ((code <= CLAIM) & (q != 0))
+        | ((code == READ) & (amount != 0))
+        | ((code == CLAIM) & (amount == 0))
+        | ((code == MOVE) & (r == q))
+        | ((code == CLAIM_ALL) & ((q < r) | (MOST_CLAIMED < registers) | (amount == 0)))
 }

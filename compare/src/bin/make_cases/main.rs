@@ -322,7 +322,7 @@ fn refusal_order(cases: &mut Cases) {
 /// Operations that document 01 calls bad, one for each reason and beside its limits.
 const BAD_OPERATIONS: [(u8, u8, u8, u32); 14] = [
     (0, 0, 0, 0),
-    (6, 0, 0, 1),
+    (7, 0, 0, 1),
     (255, 1, 2, 3),
     (READ, 64, 0, 0),
     (SET, 255, 0, 1),

@@ -1,4 +1,5 @@
--- `execute` meets its contract: each return is an outcome of the operation; a move's are those of `execute_move`.
+-- `execute` meets its contract: each return is an outcome of the operation; those of a move and of a claim of registers together are
+-- those of `execute_move` and `execute_claim_all`.
 use native.Mathlib.Omega.{arith}
 use mathlib.Core.Path.{_≡_, sym, _∙_}
 use mathlib.Core.Bool.{false}
@@ -11,6 +12,10 @@ use Rattle.registers.proofs.execute.Tie as tie
 
 on : (c : tie.Else1) → offBoard (c .before .before .args .o) ≡ false
 on c = sym (c .before .off-board .ensures) ∙ c .if1 .left
+
+-- the place behind the test of the board, from behind the tests of codes 1 to 4
+abbrev behind-board : tie.Else5 → tie.Else1
+behind-board c = c .before .before .before .before .before .before
 
 off-board-requires : tie.Need-off-board-requires
 off-board-requires c κs = search needs
@@ -69,20 +74,27 @@ returns-6 c =
     executed-claim _ _ (on (c .before .before .before .before .before .before .before)) (c .before .if5 .taken) (c .if6 .left)
 
 execute-move-requires : tie.Need-execute-move-requires
-execute-move-requires c κs =
-    record { on = on (c .before .before .before .before .before .before .before .before); code = c .before .if7 .taken }
+execute-move-requires c κs = record { on = on (behind-board (c .before .before)); code = c .before .if7 .taken }
 
 returns-7 : tie.Need-returns-7
 returns-7 c = search needs
 
+execute-claim-all-requires : tie.Need-execute-claim-all-requires
+execute-claim-all-requires c κs = record { on = on (behind-board (c .before .before .before)); code = c .before .if8 .taken }
+
 returns-8 : tie.Need-returns-8
-returns-8 c =
-    executed-unknown _ _ (on (c .before .before .before .before .before .before .before))
-    (c .before .before .before .before .if2 .left)
-    (c .before .before .before .if3 .left)
-    (c .before .before .if4 .left)
-    (c .before .if5 .left)
-    (c .if7 .left)
+returns-8 c = search needs
+
+returns-9 : tie.Need-returns-9
+returns-9 c =
+    let not-claim = c .before .before in
+    executed-unknown _ _ (on (behind-board not-claim))
+    (not-claim .before .before .before .if2 .left)
+    (not-claim .before .before .if3 .left)
+    (not-claim .before .if4 .left)
+    (not-claim .if5 .left)
+    (c .before .if7 .left)
+    (c .if8 .left)
 
 pub execute-spec : {M : Type 1} → statement M
 execute-spec =
@@ -107,4 +119,6 @@ execute-spec =
     returns-6
     execute-move-requires
     returns-7
-    returns-8)
+    execute-claim-all-requires
+    returns-8
+    returns-9)

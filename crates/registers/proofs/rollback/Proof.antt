@@ -1,10 +1,11 @@
--- `rollback` meets its contract, on the board and off it.
+-- `rollback` meets its contract: off the board, after a claim of registers together, and after any other operation.
 use native.Mathlib.Omega.{arith}
 use mathlib.Core.Path.{_≡_, sym, _∙_}
 use mathlib.Core.Bool.{false}
 use borrow.Author.Needs.{needs}
+use borrow.Author.Tests.{ne-eqb}
 use Rattle.registers.specs.Effect.{offBoard}
-use Rattle.registers.specs.Rollback.{restored}
+use Rattle.registers.specs.Rollback.{notTaken, restored}
 use Rattle.registers.proofs.RegisterLaws.{on-board}
 use Rattle.registers.proofs.rollback.Statement.{statement}
 use Rattle.registers.proofs.rollback.Tie as tie
@@ -19,6 +20,33 @@ returns : tie.Need-returns
 unfolding restored
 returns c = simp (sym (c .before .off-board .ensures) ∙ c .if1 .taken)
 
+cast-held : tie.Need-cast-held
+cast-held c = search needs
+
+mul-held : tie.Need-mul-held
+mul-held c = search needs
+
+element-copy-out-held : tie.Need-element-copy-out-held
+element-copy-out-held c = omega (arith, on-board _ (on (c .before .before .before)))
+
+returns-2 : tie.Need-returns-2
+unfolding restored notTaken
+returns-2 c =
+    let claim = c .before .before .before .before in
+    simp (on (claim .before .before), claim .if2 .taken, c .if3 .taken)
+
+set-all-requires : tie.Need-set-all-requires
+set-all-requires c κs =
+    let claim = c .before .before .before .before .before in
+    on (claim .before .before)
+
+returns-3 : tie.Need-returns-3
+unfolding restored notTaken
+returns-3 c =
+    let took = c .before .before in
+    let claim = took .before .before .before .before in
+    c .set-all .ensures ∙ simp (on (claim .before .before), claim .if2 .taken, took .if3 .left)
+
 cast-registers : tie.Need-cast-registers
 cast-registers c = search needs
 
@@ -26,7 +54,7 @@ mul-registers : tie.Need-mul-registers
 mul-registers c = search needs
 
 element-write-registers : tie.Need-element-write-registers
-element-write-registers c = omega (arith, on-board _ (on (c .before)))
+element-write-registers c = omega (arith, on-board _ (on (c .before .before .before)))
 
 cast-registers-2 : tie.Need-cast-registers-2
 cast-registers-2 c = search needs
@@ -35,11 +63,13 @@ mul-registers-2 : tie.Need-mul-registers-2
 mul-registers-2 c = search needs
 
 element-write-registers-2 : tie.Need-element-write-registers-2
-element-write-registers-2 c = omega (arith, on-board _ (on (c .before .before)))
+element-write-registers-2 c = omega (arith, on-board _ (on (c .before .before .before .before)))
 
-returns-2 : tie.Need-returns-2
+returns-4 : tie.Need-returns-4
 unfolding restored
-returns-2 c = simp (on (c .before .before))
+returns-4 c =
+    let other = c .before .before in
+    simp (on (other .before .before), ne-eqb _ _ (other .if2 .left))
 
 pub rollback-spec : {M : Type 1} → statement M
 rollback-spec =
@@ -47,10 +77,16 @@ rollback-spec =
     (tie.spec
     off-board-requires
     returns
+    cast-held
+    mul-held
+    element-copy-out-held
+    returns-2
+    set-all-requires
+    returns-3
     cast-registers
     mul-registers
     element-write-registers
     cast-registers-2
     mul-registers-2
     element-write-registers-2
-    returns-2)
+    returns-4)

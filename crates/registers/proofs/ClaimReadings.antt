@@ -1,0 +1,17 @@
+-- Each reading of `specs/ClaimReadings` is what the definitions compute.
+use mathlib.Core.Path.{refl}
+use Rattle.request.specs.Operations.{badOperation}
+use Rattle.registers.specs.Effect.{offBoard, firstHeld, lowestHeld, allSet, allClaimed, allClaimedResponse, exec, response}
+use Rattle.registers.specs.ClaimReadings.{ClaimReadings}
+
+pub claim-readings-told : ClaimReadings
+unfolding badOperation offBoard firstHeld lowestHeld allSet allClaimed allClaimedResponse exec response
+claim-readings-told = record {
+  lowest-numbered = record { effect = refl; response = refl };
+  four-good = refl;
+  five-bad = refl;
+  own-value-held = record { effect = refl; response = refl };
+  none-claimed = record { effect = refl; response = refl };
+  six-claimed = record { effect = refl; response = refl };
+  claimed-for-zero = record { effect = refl; response = refl };
+}
