@@ -81,6 +81,15 @@ pub fn carry(panel: &mut Panel, call: &Call) -> Answer {
     }
 }
 
+/// The step that is due on a panel that owes one.
+pub fn due_step(panel: &Panel) -> Call {
+    if panel.to_be_rolled_back_reversed().is_empty() {
+        Call::CarryOut
+    } else {
+        Call::Undo
+    }
+}
+
 /// The call that these bytes stand for.
 pub fn decode(call: &[u8]) -> Call {
     match call[0] {
@@ -159,8 +168,7 @@ impl List {
     /// Adds single steps until the panel is idle.
     pub fn add_due_steps(&mut self) {
         while self.panel.owed() > 0 {
-            let undo_due = !self.panel.to_be_rolled_back_reversed().is_empty();
-            self.add(if undo_due { &Call::Undo } else { &Call::CarryOut });
+            self.add(&due_step(&self.panel));
         }
     }
 

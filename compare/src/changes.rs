@@ -1,6 +1,7 @@
 //! Where calls change long orders: how much of a long executed list they leave.
 
 use crate::calls;
+use crate::counting::Counting;
 use crate::panel::Panel;
 use crate::random::Call;
 
@@ -19,14 +20,15 @@ pub struct LongChanges {
     pub end: usize,
 }
 
-impl LongChanges {
-    /// Gives a panel a call that changes it and counts the call.
-    pub fn carry(&mut self, panel: &mut Panel, call: &Call) {
+impl Counting for LongChanges {
+    fn count_call(&mut self, panel: &mut Panel, call: &Call) {
         let executed = panel.executed().len();
         calls::carry(panel, call);
         self.count(executed, panel.executed().len());
     }
+}
 
+impl LongChanges {
     fn count(&mut self, executed: usize, left: usize) {
         if executed < LONG || left >= executed {
             return;
@@ -38,17 +40,5 @@ impl LongChanges {
         } else {
             self.middle += 1;
         }
-    }
-
-    /// Counts the calls of a list.
-    pub fn count_calls(&mut self, bytes: &[u8]) {
-        let mut panel = calls::fresh(bytes);
-        calls::each(bytes).for_each(|call| self.carry(&mut panel, &calls::decode(call)));
-    }
-
-    /// Counts the messages of a printout's input.
-    pub fn count_messages(&mut self, input: &[u8]) {
-        let mut panel = calls::fresh(input);
-        calls::of_messages(input).iter().for_each(|call| self.carry(&mut panel, call));
     }
 }

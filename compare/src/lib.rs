@@ -2,10 +2,13 @@
 //! Algorithms 1 and 2 of Creek. It shares no code with the first and is there
 //! to be compared with it: one call, one message or one printout at a time.
 
+pub mod aimed_claims;
 pub mod board;
 pub mod calls;
 pub mod cases;
 pub mod changes;
+pub mod claims;
+pub mod counting;
 pub mod difference;
 pub mod fields;
 pub mod moves;

@@ -1,6 +1,7 @@
 //! Which limit decides how much the moves move.
 
 use crate::calls;
+use crate::counting::Counting;
 use crate::panel::Panel;
 use crate::random::Call;
 use crate::refusal::ACCEPTED;
@@ -18,26 +19,11 @@ pub struct MoveLimits {
     pub at_the_top: usize,
 }
 
-impl MoveLimits {
-    /// Gives a panel a call that changes it and counts the moves carried out.
-    pub fn carry(&mut self, panel: &mut Panel, call: &Call) {
-        match call {
-            Call::CarryOut => self.carry_out(panel),
-            Call::RunDue => {
-                while panel.owed() > 0 {
-                    if panel.undo().refusal != ACCEPTED {
-                        self.carry_out(panel);
-                    }
-                }
-            }
-            _ => drop(calls::carry(panel, call)),
-        }
-    }
-
-    fn carry_out(&mut self, panel: &mut Panel) {
+impl Counting for MoveLimits {
+    fn count_call(&mut self, panel: &mut Panel, call: &Call) {
         let before = *panel.registers();
-        let answer = panel.carry_out();
-        if answer.refusal != ACCEPTED {
+        let answer = calls::carry(panel, call);
+        if *call != Call::CarryOut || answer.refusal != ACCEPTED {
             return;
         }
         let operation = panel.request(answer.number.slot()).operation;
@@ -46,7 +32,9 @@ impl MoveLimits {
             self.at_the_top += (panel.registers()[operation.q as usize] == u32::MAX) as usize;
         }
     }
+}
 
+impl MoveLimits {
     fn count(&mut self, operation: &Operation, before: &[u32; REGISTERS]) {
         let held = before[operation.r as usize];
         let room = u32::MAX - before[operation.q as usize];
@@ -57,17 +45,5 @@ impl MoveLimits {
         } else {
             self.room += 1;
         }
-    }
-
-    /// Counts the moves of a list of calls.
-    pub fn count_calls(&mut self, bytes: &[u8]) {
-        let mut panel = calls::fresh(bytes);
-        calls::each(bytes).for_each(|call| self.carry(&mut panel, &calls::decode(call)));
-    }
-
-    /// Counts the moves of a printout's input.
-    pub fn count_messages(&mut self, input: &[u8]) {
-        let mut panel = calls::fresh(input);
-        calls::of_messages(input).iter().for_each(|call| self.carry(&mut panel, call));
     }
 }

@@ -4,8 +4,10 @@
 //! full of equal clocks and another of waiting contexts. The generator drives
 //! a panel of its own to know what would be interesting next: a due step, the
 //! wrong step, a settlement that is ready or one that waits, a clock that is
-//! put back, a move of all that a register holds.
+//! put back, a move of all that a register holds, a claim of neighbours that
+//! are free.
 
+use crate::aimed_claims::AimedClaims;
 use crate::changes::LONG;
 use crate::panel::Panel;
 use crate::printout::MOST_BYTES;
@@ -190,6 +192,7 @@ pub struct Shift {
     random: Random,
     /// The stream that aimed moves are drawn from.
     aims: Random,
+    claims: AimedClaims,
     habits: Habits,
     panels: u8,
     own: u8,
@@ -209,9 +212,16 @@ impl Shift {
 
     fn of_shop(mut random: Random, panels: u8, own: u8) -> Shift {
         let mut aims = random.fork();
+        let claims = AimedClaims::draw(aims.fork());
         let habits = Habits::draw(&mut random, &mut aims);
         let (_, shadow) = Panel::fresh(panels, own);
-        Shift { random, aims, habits, panels, own, shadow, hour: 0, last_own: None }
+        Shift { random, aims, claims, habits, panels, own, shadow, hour: 0, last_own: None }
+    }
+
+    /// Leaves out what is aimed, which the stored inputs do not have.
+    fn aim_at_nothing(&mut self) {
+        self.habits.aimed = 0;
+        self.claims.make_up(0);
     }
 
     /// What to call fresh with.
@@ -341,6 +351,11 @@ impl Shift {
         if self.random.percent(self.habits.damage / 2) {
             return self.bad_operation();
         }
+        let drawn = self.good_operation();
+        self.claims.in_place_of(drawn, &self.shadow)
+    }
+
+    fn good_operation(&mut self) -> Operation {
         let r = self.random.below(self.habits.registers) as u8;
         match self.random.one_of(&[READ, SET, SET, ADD, ADD, CLAIM, MOVE, MOVE]) {
             READ => Operation::new(READ, r, 0, 0),
@@ -384,10 +399,15 @@ impl Shift {
     }
 
     fn bad_operation(&mut self) -> Operation {
+        let drawn = self.bad_single_operation();
+        self.claims.bad_in_place_of(drawn)
+    }
+
+    fn bad_single_operation(&mut self) -> Operation {
         let r = self.random.below(REGISTERS) as u8;
         let over = 64 + self.random.below(192) as u8;
         match self.random.below(8) {
-            0 => Operation::new(self.random.one_of(&[0, 6, 255]), r, 0, 0),
+            0 => Operation::new(self.random.one_of(&[0, 7, 255]), r, 0, 0),
             1 => Operation::new(self.random.one_of(&[READ, SET, ADD, CLAIM, MOVE]), over, 0, 0),
             2 => Operation::new(MOVE, r, over, 1),
             3 => Operation::new(
@@ -595,11 +615,11 @@ pub fn shop(random: &mut Random) -> (u8, u8) {
     }
 }
 
-/// The calls of one shift as they are stored, without aimed moves, and what to
+/// The calls of one shift as they are stored, with nothing aimed, and what to
 /// call fresh with.
 pub fn calls(seed: u64, length: usize) -> (u8, u8, Vec<Call>) {
     let mut shift = Shift::new(seed);
-    shift.habits.aimed = 0;
+    shift.aim_at_nothing();
     let (panels, own) = shift.shop();
     (panels, own, (0..length).map(|_| shift.next_call()).collect())
 }
@@ -940,8 +960,8 @@ pub fn observed(seed: u64, panels: u8, requests: usize) -> Vec<Message> {
     let mut random = Random::new(seed);
     let mut shop = Shop::new(random.word(), panels);
     let mut works = Shift::of_shop(Random::new(random.word()), panels, 0);
+    works.aim_at_nothing();
     works.habits.damage = 0;
-    works.habits.aimed = 0;
     works.habits.registers = 6;
     let watching = panels as usize - 1;
     let mut seen = Vec::new();
@@ -980,6 +1000,7 @@ pub fn busy_input(seed: u64, panels: u8, requests: usize) -> Vec<u8> {
 pub fn awkward_input(seed: u64, panels: u8, own: u8, messages: usize) -> Vec<u8> {
     let mut bytes = vec![panels, own];
     let mut shift = Shift::of_shop(Random::new(seed), panels, own);
+    shift.aim_at_nothing();
     shift.habits = Habits {
         clocks: Clocks::Tied,
         registers: 5,
@@ -988,7 +1009,6 @@ pub fn awkward_input(seed: u64, panels: u8, own: u8, messages: usize) -> Vec<u8>
         damage: 16,
         waiting: 30,
         skips: 10,
-        aimed: 0,
         ..shift.habits
     };
     for _ in 1..messages {

@@ -8,6 +8,8 @@ use mizzencord_compare::board::{Board, Handwritten, MOST_PRINTED};
 use mizzencord_compare::calls::{self, ANSWER_SIZE};
 use mizzencord_compare::cases;
 use mizzencord_compare::changes::{LongChanges, LONG};
+use mizzencord_compare::claims::ClaimOutcomes;
+use mizzencord_compare::counting::Counting;
 use mizzencord_compare::difference::{Case, Function, Outcome};
 use mizzencord_compare::moves::MoveLimits;
 use mizzencord_compare::progress::{progress, progress_ends};
@@ -35,6 +37,7 @@ struct Counts {
     raised: usize,
     changes: LongChanges,
     moves: MoveLimits,
+    claims: ClaimOutcomes,
     printouts: usize,
     printed: usize,
     readings: Tally,
@@ -94,6 +97,7 @@ impl Comparison {
                 if result > 0 {
                     counts.changes.count_calls(&case.bytes);
                     counts.moves.count_calls(&case.bytes);
+                    counts.claims.count_calls(&case.bytes);
                 }
             }
             Function::Print => {
@@ -102,6 +106,7 @@ impl Comparison {
                 if result > 0 {
                     counts.changes.count_messages(&case.bytes);
                     counts.moves.count_messages(&case.bytes);
+                    counts.claims.count_messages(&case.bytes);
                 }
             }
             Function::Read => counts.readings.count(result),
@@ -209,6 +214,13 @@ fn summary(counts: &Counts) {
         "moves carried out: limited by the amount asked {asked}, by what r held {held}, \
          by the room in q {room}; q at the top afterwards {at_the_top}"
     );
+    let ClaimOutcomes { took, held, undone } = counts.claims;
+    println!(
+        "claims of neighbours carried out: took all, by how many, {}; found one held, by the place of the \
+         lowest, {}; undone after they took {undone}",
+        from_1(&took),
+        from_1(&held)
+    );
     println!("printouts: {} with {} bytes", counts.printouts, counts.printed);
     for (name, tally) in [("read", &counts.readings), ("written", &counts.writings)] {
         println!(
@@ -219,6 +231,12 @@ fn summary(counts: &Counts) {
         );
     }
     println!("no difference");
+}
+
+/// Counts that belong to the numbers from 1 on.
+fn from_1(counts: &[usize]) -> String {
+    let counts: Vec<String> = (1..).zip(counts).map(|(number, count)| format!("{number}: {count}")).collect();
+    counts.join(", ")
 }
 
 fn by_number(accepted: usize, refusals: &[usize; REFUSALS]) -> String {

@@ -1,7 +1,9 @@
 //! Decks taken together: document 02's request (g).
 
+use mizzencord_compare::claims::ClaimOutcomes;
+use mizzencord_compare::counting::Counting;
 use mizzencord_compare::panel::{Answer, Panel};
-use mizzencord_compare::random::Random;
+use mizzencord_compare::random::{long_calls, printout_input, Call, Random, Shift};
 use mizzencord_compare::request::*;
 use mizzencord_compare::wire::{parse, Message, Parsed};
 
@@ -469,4 +471,133 @@ fn spans_at_the_limits() {
     let mut registers = [0; 64];
     assert_eq!(claim_together(60, 63, 7).execute(&mut registers), 7);
     assert_eq!((registers[59], &registers[60..]), (0, &[7; 4][..]));
+}
+
+// ---- counts, and what random shifts meet
+
+#[test]
+fn claims_are_counted_by_what_they_find() {
+    let counted = |values: [u32; 4], count: u8| {
+        let mut panel = panel_with(values, 30);
+        let mut outcomes = ClaimOutcomes::default();
+        let operation = claim_together(30, 30 + count - 1, 7);
+        outcomes.carry(&mut panel, &Call::Make(operation, false, Clock(5)));
+        outcomes.carry(&mut panel, &Call::RunDue);
+        assert_eq!(outcomes.undone, 0);
+        (outcomes.took, outcomes.held)
+    };
+    assert_eq!(counted([0, 0, 0, 0], 1), ([1, 0, 0, 0], [0; 4]));
+    assert_eq!(counted([0, 0, 9, 0], 2), ([0, 1, 0, 0], [0; 4]));
+    assert_eq!(counted([0, 0, 0, 9], 3), ([0, 0, 1, 0], [0; 4]));
+    assert_eq!(counted([0, 0, 0, 0], 4), ([0, 0, 0, 1], [0; 4]));
+    assert_eq!(counted([9, 0, 9, 0], 4), ([0; 4], [1, 0, 0, 0]));
+    assert_eq!(counted([0, 9, 0, 0], 2), ([0; 4], [0, 1, 0, 0]));
+    assert_eq!(counted([0, 0, 7, 9], 4), ([0; 4], [0, 0, 1, 0]));
+    assert_eq!(counted([0, 0, 0, 9], 4), ([0; 4], [0, 0, 0, 1]));
+}
+
+#[test]
+fn only_claims_that_took_count_as_undone() {
+    let mut panel = panel(2, 0);
+    let mut outcomes = ClaimOutcomes::default();
+    let mut carry = |calls: &[Call]| {
+        calls.iter().for_each(|call| outcomes.carry(&mut panel, call));
+        outcomes
+    };
+    // It takes two, is undone, finds the second held, is undone and finds it again.
+    let made = Call::Make(claim_together(1, 2, 7), false, Clock(5));
+    carry(&[made, Call::CarryOut, Call::CarryOut, Call::Undo]);
+    carry(&[Call::Hear(weak(1, 1, 3, set(2, 9))), Call::Undo, Call::CarryOut, Call::CarryOut]);
+    let counted = carry(&[Call::Hear(weak(1, 2, 4, read(2))), Call::RunDue]);
+    assert_eq!(counted, ClaimOutcomes { took: [0, 1, 0, 0], held: [0, 2, 0, 0], undone: 1 });
+    // A plain claim and a set that are carried out and undone do not count.
+    let plain =
+        [claim(20, 7), set(21, 7), claim(20, 8)].map(|operation| Call::Make(operation, true, Clock(6)));
+    carry(&plain);
+    assert_eq!(carry(&[Call::RunDue, Call::Hear(weak(1, 3, 1, read(2))), Call::RunDue]).undone, 1);
+}
+
+/// What random shifts ask for.
+#[derive(Debug, Default)]
+struct Asked {
+    /// By code 6: up to register 63, made, heard weak and heard strong.
+    to_the_last: usize,
+    made: usize,
+    heard_weak: usize,
+    heard_strong: usize,
+    /// Bad ones: across register 63, q or r further over it, r above q, five,
+    /// more than five, for 0, and a plain claim with q.
+    across: usize,
+    over: usize,
+    above: usize,
+    five: usize,
+    more: usize,
+    for_nothing: usize,
+    plain_with_q: usize,
+}
+
+impl Asked {
+    fn count(&mut self, call: &Call) {
+        let Operation { code, r, q, amount } = match call {
+            Call::Make(operation, ..) => *operation,
+            Call::Hear(request) => request.operation,
+            _ => return,
+        };
+        self.plain_with_q += (code == 4 && r < 64 && (1..64).contains(&q) && amount > 0) as usize;
+        if code != 6 {
+            return;
+        }
+        let claimed = q as i32 - r as i32 + 1;
+        let (inside, few) = (r < 64 && q < 64, (1..=4).contains(&claimed));
+        self.to_the_last += (few && q == 63 && amount > 0) as usize;
+        self.made += matches!(call, Call::Make(..)) as usize;
+        self.heard_weak += matches!(call, Call::Hear(request) if !request.strong) as usize;
+        self.heard_strong += matches!(call, Call::Hear(request) if request.strong) as usize;
+        self.across += (r < 64 && q >= 64 && few) as usize;
+        self.over += (!inside && !few) as usize;
+        self.above += (inside && r > q) as usize;
+        self.five += (inside && claimed == 5) as usize;
+        self.more += (inside && claimed > 5) as usize;
+        self.for_nothing += (inside && few && amount == 0) as usize;
+    }
+}
+
+#[test]
+fn random_shifts_claim_in_every_way() {
+    let (mut outcomes, mut asked) = (ClaimOutcomes::default(), Asked::default());
+    for seed in 0..600 {
+        let mut shift = Shift::new(seed);
+        let (panels, own) = shift.shop();
+        let mut panel = panel(panels, own);
+        for _ in 0..200 {
+            let call = shift.next_call();
+            asked.count(&call);
+            if !matches!(call, Call::Register(_) | Call::RequestAt(_)) {
+                outcomes.carry(&mut panel, &call);
+            }
+        }
+    }
+    let ClaimOutcomes { took, held, undone } = outcomes;
+    assert!([took, held].concat().iter().all(|count| *count > 60) && undone > 300, "{outcomes:?}");
+    let good = [asked.to_the_last, asked.made, asked.heard_weak, asked.heard_strong];
+    assert!(good.iter().all(|count| *count > 150), "{asked:?}");
+    let spans = [asked.across, asked.over, asked.above, asked.five, asked.more];
+    assert!(spans.iter().all(|count| *count > 20), "{asked:?}");
+    assert!(asked.for_nothing > 20 && asked.plain_with_q > 20, "{asked:?}");
+}
+
+#[test]
+fn random_printouts_and_long_shifts_claim_too() {
+    let mut printed = ClaimOutcomes::default();
+    (0..200).for_each(|seed| printed.count_messages(&printout_input(seed)));
+    let mut long = ClaimOutcomes::default();
+    for seed in 0..40 {
+        let (panels, own, calls) = long_calls(seed);
+        let mut panel = panel(panels, own);
+        calls.iter().for_each(|call| long.carry(&mut panel, call));
+    }
+    for ClaimOutcomes { took, held, undone } in [printed, long] {
+        assert!([took, held].concat().iter().all(|count| *count > 25), "{printed:?} {long:?}");
+        assert!(undone > 200, "{printed:?} {long:?}");
+    }
 }

@@ -4,6 +4,7 @@
 use mizzencord_compare::calls;
 use mizzencord_compare::cases;
 use mizzencord_compare::changes::LongChanges;
+use mizzencord_compare::counting::Counting;
 use mizzencord_compare::printout::printout;
 use mizzencord_compare::random::{long_calls, Call};
 

@@ -1,6 +1,7 @@
 //! Moves of what there is: document 02's request (i).
 
 use mizzencord_compare::calls;
+use mizzencord_compare::counting::Counting;
 use mizzencord_compare::moves::MoveLimits;
 use mizzencord_compare::panel::{Answer, Panel};
 use mizzencord_compare::random::{Call, Random, Shift};
