@@ -16,6 +16,8 @@ mod random_calls;
 mod refusals;
 mod shop;
 mod steps;
+mod stored_claims;
+mod stored_lines;
 mod stored_moves;
 mod wire;
 mod worked;

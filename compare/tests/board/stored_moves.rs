@@ -1,44 +1,12 @@
 //! The stored cases of moves, worked out by hand.
 
-use mizzencord_compare::calls;
 use mizzencord_compare::printout::printout;
 
-use crate::examples::{stored_case, stored_cases};
+use crate::examples::stored_cases;
 use crate::moves::MOVES;
+use crate::stored_lines::{answer, answered, lines, nothing, printed, read_and_reply, registers};
 
 const TOP: u32 = 4_294_967_295;
-
-fn lines(text: Vec<u8>) -> Vec<String> {
-    String::from_utf8(text).unwrap().lines().map(String::from).collect()
-}
-
-fn printed(name: &str) -> Vec<String> {
-    lines(printout(&stored_case("../crates/cases", name)))
-}
-
-fn answered(name: &str) -> Vec<String> {
-    lines(calls::printed(&stored_case("../crates/callcases", name)))
-}
-
-fn nothing() -> String {
-    answer(0, (0, 0), 0)
-}
-
-fn answer(mark: u8, (panel, event): (u8, u8), response: u32) -> String {
-    format!("0 {mark} {panel} {event} {response}")
-}
-
-/// The make of a weak read at the highest clock, and its reply.
-fn read_and_reply((panel, event): (u8, u8), r: u8, value: u32) -> [String; 2] {
-    let made = format!("0 0 0 0 0 18 0 1 0 {panel} {event} 255 255 255 255 1 {r} 0 0 0 0 0 0");
-    [made, answer(1, (panel, event), value)]
-}
-
-/// The register lines of a printout.
-fn registers(values: &[(u8, u32)]) -> Vec<String> {
-    let held = values.iter().filter(|(_, value)| *value != 0);
-    held.map(|(r, value)| format!("register {r} {value}")).collect()
-}
 
 /// 0/1 sets 7, 0/2 sets 8 and 0/3 moves; 2/1 and 2/2 read 7 and 8. Then 1/1
 /// comes before all, which are undone and done again.

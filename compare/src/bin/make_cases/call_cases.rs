@@ -1,6 +1,6 @@
 //! The cases of the program `callcases`: lists of calls as docs/CALLS.md lays
 //! them out, most of them about own clocks that are put back, the last about
-//! moves.
+//! moves and about claims of neighbouring registers.
 
 use mizzencord_compare::calls::{self, List, CALLS_AT, CALL_SIZE};
 use mizzencord_compare::printout::MOST_BYTES;
@@ -9,8 +9,8 @@ use mizzencord_compare::request::*;
 use mizzencord_compare::wire::{Message, WEAK_LENGTH};
 
 use crate::{
-    add, bytes_of, claim, heard_in_clock_order, moves, set, settlement, shift, strong, strong_of, weak,
-    Cases, BAD_OPERATIONS, MOST_NAMED, WIDEST_SHOP,
+    add, bytes_of, claim, claims, heard_in_clock_order, moves, set, settlement, shift, strong, strong_of,
+    weak, Cases, BAD_OPERATIONS, MOST_NAMED, WIDEST_SHOP,
 };
 
 pub fn cases() -> Cases {
@@ -30,6 +30,7 @@ pub fn cases() -> Cases {
     limits(&mut cases);
     long_order(&mut cases);
     moves::lists(&mut cases);
+    claims::lists(&mut cases);
     cases
 }
 

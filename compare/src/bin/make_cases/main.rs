@@ -12,6 +12,8 @@ use mizzencord_compare::request::*;
 use mizzencord_compare::wire::{Message, SETTLEMENT_LENGTH, STRONG_LENGTH, WEAK_LENGTH};
 
 mod call_cases;
+mod claims;
+mod in_turn;
 mod moves;
 
 /// The most bytes that the name of a case can have.
@@ -102,6 +104,7 @@ fn cases() -> Cases {
     late_in_long_orders(&mut cases);
     settled_in_long_orders(&mut cases);
     moves::printouts(&mut cases);
+    claims::printouts(&mut cases);
     cases
 }
 
@@ -170,6 +173,10 @@ fn claim(r: u8, v: u32) -> Operation {
 
 const fn shift(r: u8, q: u8, v: u32) -> Operation {
     Operation::new(MOVE, r, q, v)
+}
+
+const fn claim_together(r: u8, q: u8, v: u32) -> Operation {
+    Operation::new(CLAIM_TOGETHER, r, q, v)
 }
 
 /// The i-th number, counted from 0, of so many panels that make a request each

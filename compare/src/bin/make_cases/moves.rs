@@ -1,13 +1,13 @@
 //! Cases of moves, as inputs of the printout program and, because a printout
 //! shows no response, once more as lists of calls.
 
-use mizzencord_compare::calls::List;
 use mizzencord_compare::random::Call;
 use mizzencord_compare::request::*;
 use mizzencord_compare::wire::Message;
 
-use crate::call_cases::{list, make, make_strong, read, settle, step_by_step, take};
-use crate::{add, claim, set, shift, strong, weak, Cases, SHOP};
+use crate::call_cases::{list, make, make_strong, read, settle, take};
+use crate::in_turn::{done_twice, heard, named, one_by_one, with_reads};
+use crate::{add, claim, set, shift, strong, weak, Cases};
 
 const TOP: u32 = u32::MAX;
 
@@ -28,48 +28,6 @@ pub fn lists(cases: &mut Cases) {
     cases.add(INTO_ITSELF, into_itself_made_and_heard());
     cases.add(CHAIN, with_reads(one_by_one(&falling_chain()), &named(&CHAIN_OF_MOVES)).into_bytes());
     own_moves(cases);
-}
-
-// ---- what the cases are made of
-
-/// The operations as requests of panel 0, each ten behind the one before.
-fn heard(operations: &[Operation]) -> Vec<Message> {
-    let request = |event: u8, operation: &Operation| weak(0, event, 10 * event as u32, *operation);
-    (1..).zip(operations).map(|(event, operation)| request(event, operation)).collect()
-}
-
-/// The registers that operations name, q of moves alone.
-fn named(operations: &[Operation]) -> Vec<u8> {
-    let moves = operations.iter().filter(|operation| operation.code == MOVE);
-    let mut named: Vec<u8> =
-        operations.iter().map(|operation| operation.r).chain(moves.map(|operation| operation.q)).collect();
-    named.sort();
-    named.dedup();
-    named
-}
-
-/// The messages with the single steps that are due after each.
-fn one_by_one(messages: &[Message]) -> List {
-    let calls: Vec<Call> = messages.iter().map(|message| take(*message)).collect();
-    step_by_step((SHOP[0], SHOP[1]), &calls)
-}
-
-/// The list and reads of some registers at the highest clock.
-fn with_reads(mut list: List, registers: &[u8]) -> List {
-    for register in registers {
-        list.add(&make(read(*register), TOP));
-        list.add_due_steps();
-    }
-    list
-}
-
-/// The messages one by one and reads of some registers, and then a request that
-/// stands before all, so that all is undone and done once more.
-fn done_twice(messages: &[Message], registers: &[u8]) -> Vec<u8> {
-    let mut list = with_reads(one_by_one(messages), registers);
-    list.add(&take(weak(1, 1, 0, read(0))));
-    list.add_due_steps();
-    list.into_bytes()
 }
 
 // ---- the cases
