@@ -955,12 +955,14 @@ impl Shop {
     }
 }
 
-/// What reaches the last panel of a shop, which makes nothing itself.
-pub fn observed(seed: u64, panels: u8, requests: usize) -> Vec<Message> {
+/// What reaches the last panel of a shop, which makes nothing itself. So many
+/// percent of the operations other than moves are about claims of neighbours.
+pub fn observed(seed: u64, panels: u8, requests: usize, claims: usize) -> Vec<Message> {
     let mut random = Random::new(seed);
     let mut shop = Shop::new(random.word(), panels);
     let mut works = Shift::of_shop(Random::new(random.word()), panels, 0);
     works.aim_at_nothing();
+    works.claims.make_up(claims);
     works.habits.damage = 0;
     works.habits.registers = 6;
     let watching = panels as usize - 1;
@@ -971,6 +973,7 @@ pub fn observed(seed: u64, panels: u8, requests: usize) -> Vec<Message> {
         match random.below(10) {
             0..=2 => {
                 let strong = random.percent(35);
+                works.shadow = shop.panels()[panel].clone();
                 made += shop.make(panel, works.operation(), strong) as usize;
             }
             3 => shop.order_settlement(),
@@ -988,10 +991,19 @@ pub fn observed(seed: u64, panels: u8, requests: usize) -> Vec<Message> {
 /// An input of the printout program from a shop that works as it should, seen
 /// by its last panel.
 pub fn busy_input(seed: u64, panels: u8, requests: usize) -> Vec<u8> {
+    input_of(panels, &observed(seed, panels, requests, 0))
+}
+
+/// The same from a shop in which most operations are about claims of
+/// neighbours.
+pub fn together_input(seed: u64, panels: u8, requests: usize) -> Vec<u8> {
+    input_of(panels, &observed(seed, panels, requests, 75))
+}
+
+/// The input of a printout for the last panel of a shop.
+fn input_of(panels: u8, messages: &[Message]) -> Vec<u8> {
     let mut bytes = vec![panels, panels - 1];
-    for message in observed(seed, panels, requests) {
-        append(&mut bytes, &message);
-    }
+    messages.iter().for_each(|message| append(&mut bytes, message));
     bytes
 }
 

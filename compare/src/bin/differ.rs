@@ -137,7 +137,7 @@ fn stored_cases(folder: &Path) -> io::Result<Vec<Case>> {
         let case = Case::stored(&fs::read(file.path())?);
         cases.push(case.unwrap_or_else(|| panic!("{} is no case", file.path().display())));
     }
-    for name in ["worked", "busy", "awkward"] {
+    for name in ["worked", "busy", "awkward", "together"] {
         let bytes = fs::read(folder.join("examples").join(name).with_extension("bin"))?;
         cases.push(Case { function: Function::Print, bytes, at: 0, room: MOST_PRINTED });
     }

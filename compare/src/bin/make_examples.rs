@@ -4,7 +4,7 @@ use std::path::Path;
 use std::{env, fs, io};
 
 use mizzencord_compare::printout::printout;
-use mizzencord_compare::random::{append, awkward_input, busy_input};
+use mizzencord_compare::random::{append, awkward_input, busy_input, together_input};
 use mizzencord_compare::request::*;
 use mizzencord_compare::wire::Message;
 
@@ -14,6 +14,7 @@ fn main() -> io::Result<()> {
         ("worked", worked_input()),
         ("busy", busy_input(BUSY_SEED, 6, 70)),
         ("awkward", awkward_input(AWKWARD_SEED, 5, 1, 110)),
+        ("together", together_input(TOGETHER_SEED, 5, 60)),
     ];
     for (name, input) in inputs {
         fs::write(Path::new(&folder).join(format!("{name}.bin")), &input)?;
@@ -24,6 +25,7 @@ fn main() -> io::Result<()> {
 
 const BUSY_SEED: u64 = 476;
 const AWKWARD_SEED: u64 = 1453;
+const TOGETHER_SEED: u64 = 136;
 
 /// Document 01's input.
 fn worked_input() -> Vec<u8> {

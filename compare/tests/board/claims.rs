@@ -1,5 +1,6 @@
 //! Decks taken together: document 02's request (g).
 
+use mizzencord_compare::calls;
 use mizzencord_compare::claims::ClaimOutcomes;
 use mizzencord_compare::counting::Counting;
 use mizzencord_compare::panel::{Answer, Panel};
@@ -8,6 +9,7 @@ use mizzencord_compare::request::*;
 use mizzencord_compare::wire::{parse, Message, Parsed};
 
 use crate::build::*;
+use crate::examples::stored;
 use crate::naive;
 
 const TOP: u32 = 4_294_967_295;
@@ -600,4 +602,40 @@ fn random_printouts_and_long_shifts_claim_too() {
         assert!([took, held].concat().iter().all(|count| *count > 25), "{printed:?} {long:?}");
         assert!(undone > 200, "{printed:?} {long:?}");
     }
+}
+
+/// The strong claims that an input's settlements make respond otherwise: those
+/// that took before and those that did not.
+fn settled_otherwise(input: &[u8]) -> (usize, usize) {
+    let mut panel = calls::fresh(input);
+    let (mut responses, mut took, mut failed) = ([0; 512], 0, 0);
+    for call in calls::of_messages(input) {
+        if call != Call::RunDue {
+            calls::carry(&mut panel, &call);
+        }
+        while panel.owed() > 0 {
+            let step = calls::due_step(&panel);
+            let Answer { number, response, .. } = calls::carry(&mut panel, &step);
+            let (slot, request) = (number.slot(), panel.request(number.slot()));
+            if response == 0 || request.operation.code != 6 || !request.strong {
+                continue;
+            }
+            let (former, v) = (std::mem::replace(&mut responses[slot], response), request.operation.amount);
+            if panel.committed().contains(&(slot as u16)) && former != 0 {
+                took += (former == v && response != v) as usize;
+                failed += (former != v && response == v) as usize;
+            }
+        }
+    }
+    (took, failed)
+}
+
+#[test]
+fn the_example_takes_fails_and_settles_otherwise() {
+    let input = stored("together.bin");
+    let mut outcomes = ClaimOutcomes::default();
+    outcomes.count_messages(&input);
+    let ClaimOutcomes { took, held, undone } = outcomes;
+    assert!([took, held].concat().iter().all(|count| *count > 2) && undone > 20, "{outcomes:?}");
+    assert_eq!(settled_otherwise(&input), (1, 2));
 }

@@ -8,7 +8,7 @@ use mizzencord_compare::printout::printout;
 
 use crate::{naive, worked};
 
-fn stored(name: &str) -> Vec<u8> {
+pub fn stored(name: &str) -> Vec<u8> {
     stored_in("../examples", name)
 }
 
@@ -18,7 +18,7 @@ fn stored_in(folder: &str, name: &str) -> Vec<u8> {
 
 #[test]
 fn stored_outputs_are_printed_again() {
-    for name in ["worked", "busy", "awkward"] {
+    for name in ["worked", "busy", "awkward", "together"] {
         let input = stored(&format!("{name}.bin"));
         let output = stored(&format!("{name}.out"));
         assert!(printout(&input) == output, "{name}");
