@@ -90,6 +90,14 @@ fn measure_more(name: &str, work: &mut dyn FnMut(&dyn Board), less: &mut dyn FnM
     Times { proved, handwritten }
 }
 
+/// What every second operation of a shift is.
+#[derive(Clone, Copy)]
+enum Second {
+    OfAnyKind,
+    Move,
+    ClaimOfFour,
+}
+
 /// A shift of the last panel of eight, each call followed by all due steps.
 #[derive(Clone, Copy)]
 struct Shift {
@@ -97,14 +105,13 @@ struct Shift {
     heard: usize,
     falling: bool,
     settlements: bool,
-    /// Whether every second operation is a move.
-    moves: bool,
+    second: Second,
 }
 
 impl Shift {
     fn of(requests: usize, falling: bool, settlements: bool) -> Shift {
         let own = requests / PANELS;
-        Shift { own, heard: requests - own, falling, settlements, moves: false }
+        Shift { own, heard: requests - own, falling, settlements, second: Second::OfAnyKind }
     }
 
     fn requests(&self) -> usize {
@@ -118,9 +125,15 @@ impl Shift {
     }
 
     fn operation(&self, place: usize) -> Operation {
-        if self.moves {
-            return Shift::operation_among_moves(place);
+        match self.second {
+            Second::OfAnyKind => Shift::operation_of_any_kind(place),
+            Second::Move => Shift::operation_among_moves(place),
+            Second::ClaimOfFour => Shift::operation_among_claims(place),
         }
+    }
+
+    /// Every fourth one a move.
+    fn operation_of_any_kind(place: usize) -> Operation {
         let r = (place % 7) as u8;
         match place % 4 {
             0 => Operation::new(SET, r, 0, place as u32 + 1),
@@ -142,6 +155,22 @@ impl Shift {
             1 => Operation::new(ADD, r, 0, 30),
             2 => Operation::new(SET, r, 0, u32::MAX - 300),
             _ => Operation::new(CLAIM, r, 0, 9),
+        }
+    }
+
+    /// Every second one a claim of four registers, and the others free one each:
+    /// a claim that takes needs four of them.
+    fn operation_among_claims(place: usize) -> Operation {
+        const CLAIMED: usize = 60;
+        let turn = place / 2;
+        if place % 2 == 1 {
+            let r = turn * MOST_TOGETHER % CLAIMED;
+            return Operation::new(CLAIM_TOGETHER, r as u8, (r + MOST_TOGETHER - 1) as u8, 9);
+        }
+        let r = (turn % CLAIMED) as u8;
+        match turn % 4 {
+            3 => Operation::new(MOVE, r, CLAIMED as u8, 9),
+            _ => Operation::new(SET, r, 0, 0),
         }
     }
 
@@ -294,7 +323,7 @@ struct Single {
 
 fn single_calls(out: &mut [u8]) -> Single {
     let n = MOST_HEARD - 1;
-    let shift = Shift { own: 0, heard: n, falling: false, settlements: false, moves: false };
+    let shift = Shift { own: 0, heard: n, falling: false, settlements: false, second: Second::OfAnyKind };
     let hears = shift.calls();
     let refused = call_time("refused calls", &[], &vec![Call::Undo; n], out);
     let heard = call_time("hears", &[], &hears, out);
@@ -356,49 +385,55 @@ fn find(all: &[Measured], requests: usize, falling: bool, settlements: bool) -> 
 }
 
 /// A due step: what the falling shift takes longer, by the steps it does more.
-fn due_step(name: &str, moves: bool, out: &mut [u8]) -> Times {
-    let full = |falling| Shift { moves, ..Shift::of(MOST_HEARD + MOST_OWN, falling, false) };
+fn due_step(name: &str, second: Second, out: &mut [u8]) -> Times {
+    let full = |falling| Shift { second, ..Shift::of(MOST_HEARD + MOST_OWN, falling, false) };
     let [falling, rising] = [true, false].map(full);
     let times = run_time_more(name, &falling.calls_to_idle(), &rising.calls_to_idle(), out);
     times.over(falling.steps() - rising.steps())
 }
 
-/// The full shift in falling order and settled, with every second operation a
-/// move.
-fn full_shift_of_moves(out: &mut [u8]) -> Times {
-    let shift = Shift { moves: true, ..Shift::of(MOST_HEARD + MOST_OWN, true, true) };
-    run_time("full shift of moves", &shift.calls_to_idle(), out)
+/// The full shift in falling order and settled.
+fn full_shift(name: &str, second: Second, out: &mut [u8]) -> Times {
+    let shift = Shift { second, ..Shift::of(MOST_HEARD + MOST_OWN, true, true) };
+    run_time(name, &shift.calls_to_idle(), out)
 }
 
 /// The printout of what a panel hears at most, in falling order and settled.
 fn full_printout(out: &mut [u8]) -> Times {
-    let shift = Shift { own: 0, heard: MOST_HEARD, falling: true, settlements: true, moves: false };
+    let shift =
+        Shift { own: 0, heard: MOST_HEARD, falling: true, settlements: true, second: Second::OfAnyKind };
     print_time("printout", &shift.input(), out)
 }
 
 /// A message refused: what the messages take longer when each comes twice.
 fn refused_message(out: &mut [u8]) -> Times {
-    let once = Shift { own: 0, heard: MOST_HEARD, falling: false, settlements: false, moves: false }.input();
+    let once =
+        Shift { own: 0, heard: MOST_HEARD, falling: false, settlements: false, second: Second::OfAnyKind }
+            .input();
     let twice = [&once[..], &once[2..]].concat();
     print_time_more("messages refused", &twice, &once, out).over(MOST_HEARD)
 }
 
 fn ratios(all: &[Measured], out: &mut [u8]) {
-    let step = due_step("due steps", false, out);
+    let step = due_step("due steps", Second::OfAnyKind, out);
     let printout = full_printout(out);
     let refused = refused_message(out);
     let single = single_calls(out);
     let (read, write) = message_time(&mut [0; STRONG_LENGTH]);
     let copy = copy_time();
-    let step_of_moves = due_step("due steps of moves", true, out);
-    let full_of_moves = full_shift_of_moves(out);
+    let step_of_moves = due_step("due steps of moves", Second::Move, out);
+    let full_of_moves = full_shift("full shift of moves", Second::Move, out);
+    let step_of_claims = due_step("due steps of claims", Second::ClaimOfFour, out);
+    let full_of_claims = full_shift("full shift of claims", Second::ClaimOfFour, out);
     progress_ends();
     println!("| work | proved | handwritten | ratio | at most |\n|---|---|---|---|---|");
     row("a due step inside `run_due`", step, "1.5");
     row("a due step inside `run_due`, every second operation a move", step_of_moves, "1.5");
+    row("a due step inside `run_due`, every second operation a claim of four", step_of_claims, "1.5");
     let full = find(all, MOST_HEARD + MOST_OWN, true, true);
     row("a full shift: 512 requests, falling, 64 settlements", full.times, "10; 1.5 in place");
     row("a full shift, every second operation a move", full_of_moves, "10; 1.5 in place");
+    row("a full shift, every second operation a claim of four", full_of_claims, "10; 1.5 in place");
     row("a printout: 448 requests, falling, 56 settlements", printout, "");
     row("a message refused, with its line of a printout", refused, "");
     let two_copies = format!("{} (two copies)", time(2.0 * copy));
