@@ -451,7 +451,9 @@ impl Panel {
         self.awaiting &= !(1 << (slot % EVENTS));
     }
 
-    #[inline]
+    /// Inlined in the loop over all due steps, as every part of a step is: a
+    /// function of its own would save and restore registers at each.
+    #[inline(always)]
     fn roll_back_top(&mut self) -> usize {
         self.on_board -= 1;
         let slot = self.board[self.on_board] as usize;
@@ -460,7 +462,7 @@ impl Panel {
         slot
     }
 
-    #[inline]
+    #[inline(always)]
     fn execute_next(&mut self) -> (usize, u32, u8) {
         let place = self.executed;
         let slot = self.order[place] as usize;

@@ -134,7 +134,7 @@ impl Operation {
 
     /// Carries out a good operation and gives its response. Code 6 is told apart
     /// first, since one more case among the others makes all of them slower.
-    #[inline]
+    #[inline(always)]
     pub fn execute(&self, registers: &mut [u32; REGISTERS]) -> u32 {
         if self.code == CLAIM_TOGETHER {
             return self.execute_claim_together(registers);
