@@ -26,6 +26,12 @@ module _ {A : Type 0} (P : A → Type 0) where
   all-at (x ∷ xs) zero d a h = a .0
   all-at (x ∷ xs) (suc i) d a h = all-at xs i d (a .1) (omega arith)
 
+  -- wherever one looks, past the end too
+  pub all-anywhere : (l : List A) (i : ℕ) (d : A) → P d → All P l → P (getD l i d)
+  all-anywhere [] i d h a = h
+  all-anywhere (x ∷ xs) zero d h a = a .0
+  all-anywhere (x ∷ xs) (suc i) d h a = all-anywhere xs i d h (a .1)
+
   -- ---- parts
 
   pub all-take : (n : ℕ) (l : List A) → All P l → All P (take n l)
@@ -54,7 +60,7 @@ module _ {A : Type 0} (P : A → Type 0) where
   unfolding insertAt
   all-insertAt k x l h a = all-append (take k l) (x ∷ drop k l) (all-take k l a) (h, all-drop k l a)
 
-  all-consIf : (b : Bool) (x : A) (l : List A) → P x → All P l → All P (consIf b x l)
+  pub all-consIf : (b : Bool) (x : A) (l : List A) → P x → All P l → All P (consIf b x l)
   all-consIf true x l h a = (h, a)
   all-consIf false x l h a = a
 

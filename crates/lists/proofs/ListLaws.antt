@@ -109,6 +109,9 @@ module _ {A : Type 0} where
       step true e = omega arith
       step false e = omega arith
 
+  pub count-kept : (p q : A → Bool) (l : List A) → count q (keep p l) ≤ count q l
+  count-kept p q l = omega (arith, count-keep p q l, count-weaker (λ x. p x && q x) q (λ x e. both-true (p x) (q x) e .1) l)
+
   -- a list falls into three parts: those that pass a, those that pass only b, the others
   module _ (p a b : A → Bool) where
     pub count-split : (l : List A)
@@ -272,12 +275,7 @@ module _ {A : Type 0} where
     keep-ordered p (x ∷ xs) o = step (p x) few (keep-ordered p xs (rest-ordered o))
       where
         few : behind x (keep p xs) ≡ 0
-        few = omega (
-          arith,
-          first-ordered o,
-          count-keep p (λ y. not (before x y)) xs,
-          count-weaker (λ y. p y && not (before x y)) (λ y. not (before x y)) (λ y e. both-true (p y) (not (before x y)) e .1) xs,
-        )
+        few = omega (arith, first-ordered o, count-kept p (λ y. not (before x y)) xs)
 
         step : (b : Bool) {l : List A} → behind x l ≡ 0 → Ordered before l → Ordered before (consIf b x l)
         step true h o = cons h o
