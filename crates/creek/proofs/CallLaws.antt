@@ -1,8 +1,8 @@
 -- A call is accepted, with its answer and its effect, or refused, with its number and no effect; it answers with the book's refusal
--- number; and the book depends on the calls alone.
+-- number; the book depends on the calls alone; and two lists of calls in turn are one.
 use mathlib.Core.Path.{_≡_, refl, sym, ap, _∙_}
 use mathlib.Core.Bool.{Bool, true, false, cond}
-use mathlib.Core.List.{List, [], _∷_}
+use mathlib.Core.List.{List, [], _∷_, _++_}
 use borrow.Author.Tests.{eqb-true}
 use Rattle.lists.proofs.BoolLaws.{either}
 use Rattle.sets.specs.declared.Context.{Context}
@@ -75,3 +75,10 @@ pub run-book : (r : Replica) (cs : List Call) → run r cs .book ≡ notedAll (r
 unfolding run notedAll
 run-book r [] = refl
 run-book r (c ∷ cs) = run-book (step r c) cs ∙ ap (λ (b : Book). notedAll b cs) (step-book r c)
+
+-- ---- two lists of calls in turn
+
+pub run-append : (r : Replica) (cs ds : List Call) → run r (cs ++ ds) ≡ run (run r cs) ds
+unfolding run
+run-append r [] ds = refl
+run-append r (c ∷ cs) ds = run-append (step r c) cs ds

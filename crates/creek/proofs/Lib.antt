@@ -13,8 +13,11 @@ pub mod BoundLaws
 pub mod Demand
 pub mod ResponseLaws
 pub mod StableReply
+pub mod StandingOrderLaws
+pub mod Agreement
 pub mod Waiting
 pub mod Clocks
 pub mod Moves
 pub mod CreekLines
 pub mod Cases
+pub mod Pairs

@@ -192,7 +192,7 @@ module _ (a : Plan) (n : Number) where
 pub placed-count : (p : Request → Bool) (x : Request) (l : List Request) → count p (placed x l) ≡ one (p x) + count p l
 placed-count p x l = count-insert _ p x l
 
-placed-ordered : (x : Request) (l : List Request) → count (hasNumber (x .number)) l ≡ 0 → Ordered before l → Ordered before (placed x l)
+pub placed-ordered : (x : Request) (l : List Request) → count (hasNumber (x .number)) l ≡ 0 → Ordered before l → Ordered before (placed x l)
 placed-ordered x l = insert-ordered before before-transitive (λ y z. sameNumber (y .number) (z .number)) before-total x l
 
 module _ (a : Plan) (x : Request) where

@@ -28,6 +28,7 @@ use Rattle.creek.specs.Replies.{executionReply, stableReplyDue, settleme
 use Rattle.creek.specs.Calls.{Replica, fresh, isExecute, accept, step, answer}
 use Rattle.creek.specs.History.{run}
 use Rattle.creek.specs.Sound.{Sound}
+use Rattle.creek.specs.Agreement.{Extends}
 use Rattle.creek.specs.StableReply.{repliedTo, carriesOut, lastResponse, StableReply, LastCarryOut}
 use Rattle.creek.proofs.CallLaws.{by-outcome}
 use Rattle.lists.proofs.ListLaws.{one-true, one-false, count-append, passes-count}
@@ -37,11 +38,6 @@ use Rattle.creek.proofs.SoundLaws.{accept-sound, step-sound, fresh-noth
 use Rattle.creek.proofs.ResponseLaws.{response-start, response-behind, response-both}
 
 -- ---- the committed list only grows at its end
-
--- m is l with something behind it
-pub record Extends (l m : List Request) : Type 0 where
-  pub behind : List Request
-  pub is : m ≡ l ++ behind
 
 extends-self : (l : List Request) → Extends l l
 extends-self l = record { behind = []; is = sym (append-nil l) }
@@ -206,17 +202,18 @@ stands r c sound =
     by-outcome (λ v w q. w .mark ≡ stableMark → Stands (repliedTo c w) (w .response) (q .book)) r c
     (λ taken. accepted-stands r c taken sound) (λ mark. absurd (omega arith))
 
-pub stable-reply : (panels own : ℕ) (calls : List Call) (c : Call) → StableReply (run (fresh panels own) calls) c
-stable-reply panels own calls c = record { stands = λ mark further. lasts (stands now c (reached-sound panels own calls) mark) further }
+-- of every sound replica
+pub sound-stable-reply : (r : Replica) (c : Call) → Sound r → StableReply r c
+sound-stable-reply r c sound = record { stands = λ mark further. lasts (stands r c sound mark) further }
   where
-    now : Replica
-    now = run (fresh panels own) calls
-
-    lasts : Stands (repliedTo c (answer now c)) (answer now c .response) (step now c .book) → (further : List Call)
-        → answer now c .response ≡ responseIn (repliedTo c (answer now c)) (run (step now c) further .book .plan .committed)
+    lasts : Stands (repliedTo c (answer r c)) (answer r c .response) (step r c .book) → (further : List Call)
+        → answer r c .response ≡ responseIn (repliedTo c (answer r c)) (run (step r c) further .book .plan .committed)
     lasts s further =
-        let grown = run-extends (step now c) further in
-        s .is ∙ sym (response-start _ (step now c .book .plan .committed) (grown .behind) (s .there)) ∙ ap (responseIn _) (sym (grown .is))
+        let grown = run-extends (step r c) further in
+        s .is ∙ sym (response-start _ (step r c .book .plan .committed) (grown .behind) (s .there)) ∙ ap (responseIn _) (sym (grown .is))
+
+pub stable-reply : (panels own : ℕ) (calls : List Call) (c : Call) → StableReply (run (fresh panels own) calls) c
+stable-reply panels own calls c = sound-stable-reply (run (fresh panels own) calls) c (reached-sound panels own calls)
 
 -- ---- the last carry-out
 

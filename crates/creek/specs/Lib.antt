@@ -12,8 +12,10 @@ pub mod StableReply
 pub mod Waiting
 pub mod Clocks
 pub mod Moves
+pub mod Agreement
 pub mod Stack
 pub mod Examples
 pub mod Cases
 pub mod Faults
 pub mod Readings
+pub mod Pairs

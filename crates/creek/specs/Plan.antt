@@ -35,6 +35,15 @@ pub record Plan : Type 0 where
 abbrev pub emptyPlan : ℕ → ℕ → Plan
 emptyPlan panels own = record { panels = panels; own = own; known = emptySet; committed = []; tentative = [] }
 
+-- the two lists of which the standing order is made
+pub record Parts : Type 0 where
+  pub committed : List Request
+  pub tentative : List Request
+
+-- those of a plan
+abbrev pub partsOf : Plan → Parts
+partsOf a = record { committed = a .committed; tentative = a .tentative }
+
 -- the standing order
 abbrev pub order : Plan → List Request
 order a = a .committed ++ a .tentative
@@ -133,15 +142,22 @@ named x y = member (x .context) (y .number)
 abbrev pub stays : Request → Request → Bool
 stays x y = not (named x y || hasNumber (x .number) y)
 
--- the plan after x is committed: its number joins the known set [34]; the tentative requests named in its context, in clock order, and
--- then itself move to the end of the committed list [49 to 52]
+-- the two lists after x is committed: the tentative requests named in its context, in clock order, and then itself move to the end of
+-- the committed list [49 to 52]
+abbrev pub committingIn : Parts → Request → Parts
+committingIn p x = record {
+  committed = p .committed ++ (keep (named x) (p .tentative) ++ x ∷ []);
+  tentative = keep (stays x) (p .tentative);
+}
+
+-- the plan after x is committed: its number joins the known set [34], and it moves in the two lists
 unfoldable pub committing : Plan → Request → Plan
 committing a x = record {
   panels = a .panels;
   own = a .own;
   known = join (a .known) (x .number);
-  committed = a .committed ++ (keep (named x) (a .tentative) ++ x ∷ []);
-  tentative = keep (stays x) (a .tentative);
+  committed = committingIn (partsOf a) x .committed;
+  tentative = committingIn (partsOf a) x .tentative;
 }
 
 -- the same for a request found or not; an accepted call finds it [33]

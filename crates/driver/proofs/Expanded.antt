@@ -1,16 +1,11 @@
 -- The replica after the entries is the replica after the calls that they stand for.
 use mathlib.Core.Path.{_≡_, refl, _∙_}
-use mathlib.Core.List.{List, [], _∷_, _++_}
-use Rattle.creek.specs.Book.{Call}
-use Rattle.creek.specs.Calls.{Replica, step}
+use mathlib.Core.List.{List, [], _∷_}
+use Rattle.creek.specs.Calls.{Replica}
 use Rattle.creek.specs.History.{run}
+use Rattle.creek.proofs.CallLaws.{run-append}
 use Rattle.creek.proofs.DueLaws.{run-due}
 use Rattle.driver.specs.Encoding.{Entry, one, allDue, owedBy, after, runEntries, callsIn, callsOf}
-
-run-append : (r : Replica) (cs ds : List Call) → run r (cs ++ ds) ≡ run (run r cs) ds
-unfolding run
-run-append r [] ds = refl
-run-append r (c ∷ cs) ds = run-append (step r c) cs ds
 
 run-entry : (r : Replica) (x : Entry) → run r (callsIn r x) ≡ after r x
 unfolding callsIn after run
