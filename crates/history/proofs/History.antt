@@ -75,7 +75,7 @@ due-answers (suc k) r taken =
     let others = due-answers k (step r (dueOn r)) (λ j h. taken (suc j) (omega arith)) in
     ap (λ (l : List Call). refusalsIn (answersTo r l)) (due-calls k r) ∙ (λ i. first i ∷ others i)
 
-registers-model : (q : State) → Inv q → q .registers ≡ registers (model q .book .execution)
+pub registers-model : (q : State) → Inv q → q .registers ≡ registers (model q .book .execution)
 unfolding model
 registers-model q inv = sym (registers-are q inv)
 

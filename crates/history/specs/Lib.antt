@@ -1,4 +1,7 @@
--- A list of calls on a panel and what is claimed of it: demand 3, and of clocks that are put back; the worthless panels.
+-- A list of calls on a panel and what is claimed of it: demand 3, and of clocks that are put back; two panels side by side; the worthless
+-- panels.
 pub mod History
 pub mod Clocks
+pub mod PanelHistory
+pub mod Agreement
 pub mod Worthless

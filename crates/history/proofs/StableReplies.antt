@@ -1,0 +1,122 @@
+-- Stable replies of the panel (`specs/Agreement`): the theorem `panel-stable-replies`.
+use Prim.Native.Nat.{ℕ, zero, suc, _-_}
+use native.Mathlib.Omega.{arith}
+use mathlib.Core.Path.{_≡_, refl, ap, _∙_}
+use mathlib.Core.Bool.{Bool, true, false, cond}
+use mathlib.Core.List.{List, [], _∷_, _++_}
+use lib.ListN.{length, replicate}
+use Rattle.lists.specs.Lists.{isNil}
+use Rattle.lists.specs.Places.{All}
+use Rattle.lists.proofs.AllLaws.{all-anywhere, all-append, all-consIf}
+use Rattle.request.specs.declared.Request.{Request}
+use Rattle.creek.specs.declared.Answer.{Answer}
+use Rattle.creek.specs.Execution.{Execution}
+use Rattle.creek.specs.Book.{Call, undo, execute}
+use Rattle.creek.specs.Replies.{stableMark, responseIn}
+use Rattle.creek.specs.Calls.{Replica, fresh, step, answer}
+use Rattle.creek.specs.History.{run, due, settleDown, dueCalls}
+use Rattle.creek.specs.Sound.{Sound}
+use Rattle.creek.specs.StableReply.{repliedTo}
+use Rattle.creek.specs.Agreement.{replicaAfter}
+use Rattle.creek.proofs.CallLaws.{run-append}
+use Rattle.creek.proofs.DueLaws.{run-due}
+use Rattle.creek.proofs.SoundLaws.{step-sound, fresh-sound}
+use Rattle.creek.proofs.StableReply.{sound-stable-reply}
+use Rattle.replica.specs.declared.State.{State}
+use Rattle.replica.specs.declared.Ran.{Ran}
+use Rattle.replica.specs.declared.DueReply.{DueReply}
+use Rattle.replica.specs.Model.{model}
+use Rattle.replica.specs.Due.{noReply, replyIn, isAwaited, dueCall, dueReplies, mostReplies, stepsOwed, repliesOwed, RunDue}
+use Rattle.history.specs.History.{answersTo}
+use Rattle.history.specs.PanelHistory.{LeadsDue, single, all-due, PanelHistory, historyOf}
+use Rattle.history.specs.Agreement.{settledList, callAt, answerAt, replyAt, PanelStableReplies}
+use Rattle.history.proofs.PanelHistory.{leads-due-model, last-inv, last-replica, last-answers, last-sound}
+
+-- ---- stable replies of `creek`, in a list of answers and in the replies of due steps
+
+stable-in-answers : (r : Replica) (cs further : List Call) (place : ℕ) → Sound r → answerAt (answersTo r cs) place .mark ≡ stableMark
+    → answerAt (answersTo r cs) place .response
+    ≡ responseIn (repliedTo (callAt cs place) (answerAt (answersTo r cs) place)) (run (run r cs) further .book .plan .committed)
+unfolding answersTo run
+stable-in-answers r [] further place sound mark = absurd (omega arith)
+stable-in-answers r (c ∷ cs) further zero sound mark =
+    sound-stable-reply r c sound .stands mark (cs ++ further)
+    ∙ ap (λ (q : Replica). responseIn (repliedTo c (answer r c)) (q .book .plan .committed)) (run-append (step r c) cs further)
+stable-in-answers r (c ∷ cs) further (suc place) sound mark = stable-in-answers (step r c) cs further place (step-sound r c sound) mark
+
+-- a due step answers with the number that its reply is about
+due-number : (e : Execution) (v : Answer) → repliedTo (due e) v ≡ v .number
+due-number e v = go (isNil (e .rollback))
+  where
+    go : (b : Bool) → repliedTo (cond b execute undo) v ≡ v .number
+    go true = refl
+    go false = refl
+
+-- a reply that is stable is the response in a replay of those requests
+abbrev StandsIn : List Request → DueReply → Type 0
+StandsIn l d = d .mark ≡ stableMark → d .response ≡ responseIn (d .number) l
+
+due-replies-stand : (k : ℕ) (r : Replica) (further : List Call) → Sound r
+    → All (StandsIn (run (settleDown k r) further .book .plan .committed)) (dueReplies k r)
+unfolding dueReplies settleDown
+due-replies-stand zero r further sound = tt
+due-replies-stand (suc k) r further sound =
+    all-consIf (StandsIn (run (settleDown k next) further .book .plan .committed)) (isAwaited (answer r (dueCall r)))
+    (replyIn (answer r (dueCall r))) (dueReplies k next) this
+    (due-replies-stand k next further (step-sound r (dueCall r) sound))
+  where
+    next : Replica
+    next = step r (dueCall r)
+
+    this : answer r (dueCall r) .mark ≡ stableMark
+        → answer r (dueCall r) .response ≡ responseIn (answer r (dueCall r) .number) (run (settleDown k next) further .book .plan .committed)
+    this mark =
+        sound-stable-reply r (dueCall r) sound .stands mark (dueCalls k (next .book) ++ further)
+        ∙ ap (λ (q : Replica). responseIn (repliedTo (dueCall r) (answer r (dueCall r))) (q .book .plan .committed))
+        (run-append next (dueCalls k (next .book)) further ∙ ap (λ (q : Replica). run q further) (run-due k next))
+        ∙ rw (due-number (r .book .execution) (answer r (dueCall r)))
+
+-- the replies of zeros have no mark
+zeros-stand : (l : List Request) (n : ℕ) → All (StandsIn l) (replicate n noReply)
+zeros-stand l zero = tt
+zeros-stand l (suc n) = ((λ mark. absurd (omega arith)), zeros-stand l n)
+
+-- ---- of the panel
+
+module _ {panels own : ℕ} (p : PanelHistory panels own) where
+  pub stable-single : (place : ℕ) → answerAt (p .answers) place .mark ≡ stableMark → (further : List Call) (more : List Answer) (later : State)
+      → LeadsDue (p .last) further more later
+      → answerAt (p .answers) place .response
+      ≡ responseIn (repliedTo (callAt (p .calls) place) (answerAt (p .answers) place)) (settledList later)
+  stable-single place mark further more later leads =
+      told (p .answers) (last-answers p) mark
+      (ap (λ (r : Replica). r .book .plan .committed)
+      (leads-due-model (last-inv p) leads ∙ ap (λ (r : Replica). run r further) (last-replica p)))
+    where
+      told : (answers : List Answer) → answers ≡ answersTo (fresh panels own) (p .calls) → answerAt answers place .mark ≡ stableMark
+          → settledList later ≡ run (replicaAfter (historyOf p)) further .book .plan .committed
+          → answerAt answers place .response
+          ≡ responseIn (repliedTo (callAt (p .calls) place) (answerAt answers place)) (settledList later)
+      told answers is mark settled =
+          rw (settled, is) (stable-in-answers (fresh panels own) (p .calls) further place (fresh-sound panels own) (rw is at mark))
+
+  stable-due : (r : Ran) → RunDue (p .last) r → (place : ℕ) → replyAt r place .mark ≡ stableMark
+      → (further : List Call) (more : List Answer) (later : State) → LeadsDue (r .state) further more later
+      → replyAt r place .response ≡ responseIn (replyAt r place .number) (settledList later)
+  stable-due r ran place mark further more later leads =
+      all-anywhere (StandsIn (settledList later)) (r .replies) place noReply (λ m. absurd (omega arith)) stand mark
+    where
+      settled : settledList later ≡ run (settleDown (stepsOwed (p .last)) (model (p .last))) further .book .plan .committed
+      settled = ap (λ (q : Replica). q .book .plan .committed)
+          (leads-due-model (ran .invariant) leads ∙ ap (λ (q : Replica). run q further) (ran .state))
+
+      zeros : ℕ
+      zeros = mostReplies - length (repliesOwed (p .last))
+
+      stand : All (StandsIn (settledList later)) (r .replies)
+      stand = rw (ran .replies) (all-append (StandsIn (settledList later)) (repliesOwed (p .last)) (replicate zeros noReply)
+          (rw settled (due-replies-stand (stepsOwed (p .last)) (model (p .last)) further (last-sound p)))
+          (zeros-stand (settledList later) zeros))
+
+  pub panel-stable-replies : PanelStableReplies p
+  panel-stable-replies = record { single = stable-single; all-due = stable-due }

@@ -1,0 +1,76 @@
+-- What was called on a panel since fresh, all due steps at once among it, and what the panel accepted of it, as its answers tell
+-- (`panel-tells` in `proofs/PanelHistory`).
+use Prim.Native.Nat.{ℕ}
+use mathlib.Core.Path.{_≡_}
+use mathlib.Core.Bool.{cond}
+use mathlib.Core.List.{List, [], _∷_, _++_}
+use lib.Dec.{eqb}
+use Rattle.numbers.specs.declared.Number.{Number}
+use Rattle.request.specs.declared.Request.{Request}
+use Rattle.request.specs.Refusal as refused
+use Rattle.creek.specs.declared.Answer.{Answer}
+use Rattle.creek.specs.Book.{Call, invoke, deliver, commit, undo, execute}
+use Rattle.creek.specs.History.{dueCalls}
+use Rattle.creek.specs.Agreement.{History, requestsIn, settlementsIn}
+use Rattle.replica.specs.declared.State.{State}
+use Rattle.replica.specs.declared.Opened.{Opened}
+use Rattle.replica.specs.declared.Ran.{Ran}
+use Rattle.replica.specs.Model.{model, Inv, Fresh}
+use Rattle.replica.specs.Due.{stepsOwed, RunDue}
+use Rattle.history.specs.History.{Leads, answersTo}
+
+-- ---- what was called on a panel
+
+-- the steps that all due steps at once stand for
+abbrev pub stepsDue : State → List Call
+stepsDue p = dueCalls (stepsOwed p) (model p .book)
+
+-- those calls lead from p to q with those answers: single calls, and between them all due steps at once, which stand for the single steps
+-- and their answers; every call keeps its contract, which supposes the invariant
+pub data LeadsDue : State → List Call → List Answer → State → Type 0 where
+  single : {p q : State} {calls : List Call} {answers : List Answer} → Leads p calls answers q → LeadsDue p calls answers q
+  all-due : {p m q : State} {calls further : List Call} {answers more : List Answer} → Leads p calls answers m
+      → (r : Ran) → (Inv m → RunDue m r) → LeadsDue (r .state) further more q
+      → LeadsDue p (calls ++ (stepsDue m ++ further)) (answers ++ (answersTo (model m) (stepsDue m) ++ more)) q
+
+-- a panel of a shop of P: what fresh returned, and what was called on it since
+pub record PanelHistory (panels own : ℕ) : Type 0 where
+  pub opened : Opened
+  pub begun : Fresh panels own opened
+  pub calls : List Call
+  pub answers : List Answer
+  pub last : State
+  pub led : LeadsDue (opened .state) calls answers last
+
+-- its history as `creek` has it: P, the own panel and the calls
+abbrev pub historyOf : {panels own : ℕ} → PanelHistory panels own → History
+historyOf {panels} {own} p = record { panels = panels; own = own; calls = p .calls }
+
+-- ---- what it accepted, as its answers tell
+
+-- the request that an accepted call brought: a made one as the answer spreads it, a heard one as it came
+abbrev pub requestTold : Call → Answer → List Request
+requestTold (invoke i) v = v .request ∷ []
+requestTold (deliver x) v = x ∷ []
+requestTold (commit n) v = []
+requestTold undo v = []
+requestTold execute v = []
+
+-- the number that it settled
+abbrev pub settlementTold : Call → Answer → List Number
+settlementTold (invoke i) v = []
+settlementTold (deliver x) v = []
+settlementTold (commit n) v = n ∷ []
+settlementTold undo v = []
+settlementTold execute v = []
+
+-- what those of the calls tell with their answers that were answered with refusal 0, in their order
+unfoldable pub told : {A : Type 0} → (Call → Answer → List A) → List Call → List Answer → List A
+told by [] answers = []
+told by (c ∷ cs) [] = []
+told by (c ∷ cs) (v ∷ vs) = cond (eqb (v .refusal) refused.accepted) (by c v) [] ++ told by cs vs
+
+-- what the shift book accepts among the calls is what the panel told
+pub record PanelTells {panels own : ℕ} (p : PanelHistory panels own) : Type 0 where
+  pub requests : requestsIn (historyOf p) ≡ told requestTold (p .calls) (p .answers)
+  pub settlements : settlementsIn (historyOf p) ≡ told settlementTold (p .calls) (p .answers)
