@@ -19,5 +19,7 @@ pub mod progress;
 pub mod proved;
 pub mod random;
 pub mod refusal;
+pub mod replay;
 pub mod request;
+pub mod standing;
 pub mod wire;
