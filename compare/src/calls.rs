@@ -172,6 +172,10 @@ impl List {
         }
     }
 
+    pub fn panel(&self) -> &Panel {
+        &self.panel
+    }
+
     pub fn bytes(&self) -> &[u8] {
         &self.bytes
     }

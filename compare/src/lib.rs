@@ -2,6 +2,7 @@
 //! Algorithms 1 and 2 of Creek. It shares no code with the first and is there
 //! to be compared with it: one call, one message or one printout at a time.
 
+pub mod account;
 pub mod aimed_claims;
 pub mod board;
 pub mod calls;
@@ -10,7 +11,10 @@ pub mod changes;
 pub mod claims;
 pub mod counting;
 pub mod difference;
+pub mod evidence;
 pub mod fields;
+pub mod fingerprint;
+pub mod histories;
 pub mod moves;
 pub mod panel;
 pub mod printout;
@@ -22,4 +26,5 @@ pub mod refusal;
 pub mod replay;
 pub mod request;
 pub mod standing;
+pub mod telling;
 pub mod wire;

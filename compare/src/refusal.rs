@@ -23,3 +23,6 @@ pub const UNKNOWN_KIND: u8 = 18;
 pub const SPARE_SET: u8 = 19;
 pub const NO_ROOM: u8 = 20;
 pub const BAD_CONTEXT: u8 = 21;
+
+/// How many numbers an answer may have: the refusals and 0.
+pub const REFUSALS: usize = 22;
