@@ -25,6 +25,7 @@ pub mod random;
 pub mod refusal;
 pub mod replay;
 pub mod request;
+pub mod side_by_side;
 pub mod standing;
 pub mod telling;
 pub mod wire;
