@@ -15,6 +15,7 @@ mod random_bytes;
 mod random_calls;
 mod refusals;
 mod shop;
+mod shop_findings;
 mod side_by_side;
 mod steps;
 mod stored_claims;
