@@ -34,5 +34,6 @@ pub mod shop_shrink;
 pub mod shop_test;
 pub mod side_by_side;
 pub mod standing;
+pub mod steady;
 pub mod telling;
 pub mod wire;

@@ -6,6 +6,7 @@ use std::{env, fs, io};
 use mizzencord_compare::printout::printout;
 use mizzencord_compare::random::{append, awkward_input, busy_input, together_input};
 use mizzencord_compare::request::*;
+use mizzencord_compare::steady::{late_input, steady_input};
 use mizzencord_compare::wire::Message;
 
 fn main() -> io::Result<()> {
@@ -15,6 +16,8 @@ fn main() -> io::Result<()> {
         ("busy", busy_input(BUSY_SEED, 6, 70)),
         ("awkward", awkward_input(AWKWARD_SEED, 5, 1, 110)),
         ("together", together_input(TOGETHER_SEED, 5, 60)),
+        ("steady", steady_input()),
+        ("late", late_input()),
     ];
     for (name, input) in inputs {
         fs::write(Path::new(&folder).join(format!("{name}.bin")), &input)?;

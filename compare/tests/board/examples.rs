@@ -5,6 +5,7 @@ use std::path::Path;
 
 use mizzencord_compare::calls;
 use mizzencord_compare::printout::printout;
+use mizzencord_compare::wire::{parse, Parsed};
 
 use crate::{naive, worked};
 
@@ -18,13 +19,48 @@ fn stored_in(folder: &str, name: &str) -> Vec<u8> {
 
 #[test]
 fn stored_outputs_are_printed_again() {
-    for name in ["worked", "busy", "awkward", "together"] {
+    for name in ["worked", "busy", "awkward", "together", "steady", "late"] {
         let input = stored(&format!("{name}.bin"));
         let output = stored(&format!("{name}.out"));
         assert!(printout(&input) == output, "{name}");
         assert!(naive::printout(&input).as_bytes() == output, "{name}");
     }
     assert!(stored("worked.bin") == worked::INPUT);
+}
+
+/// Two panels of one shop that got the same messages at different times: what
+/// they hold, worked out by hand, and not what they did for it.
+#[test]
+fn the_steady_panel_and_the_late_one_agree() {
+    let inputs = ["steady.bin", "late.bin"].map(stored);
+    let messages = inputs.each_ref().map(|input| sorted_messages(input));
+    assert_eq!(messages[0].len(), 15);
+    assert_eq!(messages[0], messages[1]);
+    assert_eq!(inputs.each_ref().map(|input| (input[0], input[1])), [(5, 3), (5, 4)]);
+    assert!(messages[0].iter().all(|message| message[4] < 3), "panels 3 and 4 make nothing");
+    let texts = ["steady.out", "late.out"].map(|name| String::from_utf8(stored(name)).unwrap());
+    let held = "settled 8 unsettled 4 undone ";
+    let registers = [(0, 4), (3, 7), (4, 15), (5, 4), (6, 2), (7, 5)];
+    let registers: String = registers.map(|(r, value)| format!("register {r} {value}\n")).concat();
+    let done = texts.each_ref().map(|text| {
+        let (messages, end) = text.split_once(held).unwrap();
+        assert!(messages.lines().skip(1).all(|line| line.split(' ').nth(4) == Some("0")));
+        let (done, shown) = end.split_once('\n').unwrap();
+        assert_eq!(shown, registers);
+        done
+    });
+    assert_eq!(done, ["6 carried 18", "46 carried 58"]);
+}
+
+fn sorted_messages(input: &[u8]) -> Vec<Vec<u8>> {
+    let mut messages = Vec::new();
+    let mut at = 2;
+    while let Parsed::Message(_, taken) = parse(input, at) {
+        messages.push(input[at..at + taken].to_vec());
+        at += taken;
+    }
+    messages.sort();
+    messages
 }
 
 #[test]
