@@ -1,5 +1,6 @@
 //! Compares the proved library with this crate on the stored cases and then on
-//! seeded ones: `differ [SEED [CALLS]]`. Ends at the first difference, shrunk.
+//! seeded ones, and lays the panels of seeded shops side by side. Ends at the
+//! first difference, shrunk.
 
 use std::path::Path;
 use std::{env, fs, io, process};
@@ -15,15 +16,18 @@ use mizzencord_compare::moves::MoveLimits;
 use mizzencord_compare::progress::{progress, progress_ends};
 use mizzencord_compare::proved::Proved;
 use mizzencord_compare::random::Random;
+use mizzencord_compare::refusal::REFUSALS;
+use mizzencord_compare::shop_test::{Difference, ShopTest};
 
 const SEED: u64 = 1;
 const CALLS: usize = 5_000_000;
+const SHOPS: usize = 100_000;
+
+const HELP: &str = "differ [SEED [CALLS]], or for one part alone differ --calls [SEED [CALLS]] \
+                    or differ --shops [SEED [SHOPS]]";
 
 /// How often the progress is told.
 const PROGRESS_LINES: usize = 20;
-
-/// The refusals of document 01 and 0.
-const REFUSALS: usize = 22;
 
 /// How long the lists of calls of one round are.
 const LENGTHS: [usize; 12] = [1, 4, 10, 20, 40, 60, 60, 100, 200, 400, 400, 1500];
@@ -137,17 +141,56 @@ fn stored_cases(folder: &Path) -> io::Result<Vec<Case>> {
         let case = Case::stored(&fs::read(file.path())?);
         cases.push(case.unwrap_or_else(|| panic!("{} is no case", file.path().display())));
     }
-    for name in ["worked", "busy", "awkward", "together"] {
+    for name in ["worked", "busy", "awkward", "together", "steady", "late"] {
         let bytes = fs::read(folder.join("examples").join(name).with_extension("bin"))?;
         cases.push(Case { function: Function::Print, bytes, at: 0, room: MOST_PRINTED });
     }
     Ok(cases)
 }
 
+/// What the arguments ask for: a seed, how many calls and how many shops.
+struct Asked {
+    seed: u64,
+    calls: Option<usize>,
+    shops: Option<usize>,
+}
+
+impl Asked {
+    fn read(words: &[String]) -> Option<Asked> {
+        let (part, numbers) = match words.split_first() {
+            Some((part, numbers)) if part.starts_with('-') => (part.as_str(), numbers),
+            _ => ("", words),
+        };
+        let numbers: Vec<u64> = numbers.iter().map(|word| word.parse().ok()).collect::<Option<_>>()?;
+        let seed = numbers.first().copied().unwrap_or(SEED);
+        let count = numbers.get(1).map(|count| *count as usize);
+        let (calls, shops) = match part {
+            "" => (Some(count.unwrap_or(CALLS)), Some(SHOPS)),
+            "--calls" => (Some(count.unwrap_or(CALLS)), None),
+            "--shops" => (None, Some(count.unwrap_or(SHOPS))),
+            _ => return None,
+        };
+        (numbers.len() <= 2).then_some(Asked { seed, calls, shops })
+    }
+}
+
 fn main() -> io::Result<()> {
-    let arguments: Vec<u64> = env::args().skip(1).map(|word| word.parse().expect("a number")).collect();
-    let seed = arguments.first().copied().unwrap_or(SEED);
-    let calls = arguments.get(1).map_or(CALLS, |calls| *calls as usize);
+    let words: Vec<String> = env::args().skip(1).collect();
+    let Some(asked) = Asked::read(&words) else {
+        eprintln!("{HELP}");
+        process::exit(2);
+    };
+    if let Some(calls) = asked.calls {
+        compare_calls(asked.seed, calls)?;
+    }
+    if let Some(shops) = asked.shops {
+        compare_shops(asked.seed, shops);
+    }
+    println!("no difference");
+    Ok(())
+}
+
+fn compare_calls(seed: u64, calls: usize) -> io::Result<()> {
     let folder = Path::new(env!("CARGO_MANIFEST_DIR")).join("..");
     let mut comparison =
         Comparison { counts: Counts::default(), proved: Outcome::default(), handwritten: Outcome::default() };
@@ -171,6 +214,29 @@ fn main() -> io::Result<()> {
     progress_ends();
     summary(&comparison.counts);
     Ok(())
+}
+
+/// Lays the panels of shops side by side: those of the library, with the same
+/// answers from this crate's.
+fn compare_shops(seed: u64, shops: usize) {
+    let mut random = Random::new(seed);
+    let mut test = ShopTest::new(&Proved, Some(&Handwritten));
+    for shop in 0..shops {
+        if shop % shops.div_ceil(PROGRESS_LINES) == 0 {
+            progress(&format!("{shop} of {shops} shops"));
+        }
+        match test.test(random.word()).first() {
+            None => {}
+            Some(Difference::Bytes(case)) => report(case),
+            Some(difference) => {
+                progress_ends();
+                println!("DIFFERENCE\n{}", difference.told("the proved library", &Proved));
+                process::exit(1);
+            }
+        }
+    }
+    progress_ends();
+    println!("side by side, seed {seed}\n{}", test.counts);
 }
 
 fn round(comparison: &mut Comparison, random: &mut Random) {
@@ -230,7 +296,6 @@ fn summary(counts: &Counts) {
             by_number(tally.accepted, &tally.refused)
         );
     }
-    println!("no difference");
 }
 
 /// Counts that belong to the numbers from 1 on.
