@@ -2,11 +2,19 @@
 //! the definition of the order and a replay of it.
 
 use crate::account::Account;
+use crate::board::Board;
 use crate::calls;
+use crate::histories::{account, Shop};
 use crate::panel::Panel;
 use crate::replay::replay;
 use crate::request::*;
 use crate::standing::standing_order;
+
+/// What does not hold of the first panel of a shop whose calls go to a board.
+pub fn found_of(board: &dyn Board, shop: &Shop) -> Option<String> {
+    let list = shop.list(&shop.histories[0]);
+    found(&list, &account(board, &list))
+}
 
 /// What does not hold of the panel over a list of calls that ends idle.
 pub fn found(list: &[u8], account: &Account) -> Option<String> {

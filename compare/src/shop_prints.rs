@@ -68,7 +68,8 @@ fn messages(drawn: &Drawn, random: &mut Random) -> Vec<Message> {
             messages.push(settlements.next());
         }
     }
-    while settlements.is_left() {
+    let left = drawn.settlements.len() - settlements.done;
+    for _ in 0..left {
         messages.push(settlements.next());
         if random.percent(10) {
             messages.push(messages[messages.len() - 1]);

@@ -44,6 +44,16 @@ pub fn shrunk(board: &dyn Board, shop: &Shop, finding: &Finding) -> Shop {
     }
 }
 
+/// Fewer calls in each panel, as long as something is found.
+pub fn with_fewer_calls(shop: &Shop, found: impl Fn(&Shop) -> bool) -> Shop {
+    let mut small = shop.clone();
+    drop_readings(&mut small, &found);
+    for place in 0..small.histories.len() {
+        drop_calls(&mut small, place, &found);
+    }
+    small
+}
+
 /// Takes a smaller shop if the same is found there.
 fn attempt(small: &mut Shop, smaller: Shop, found: impl Fn(&Shop) -> bool) -> bool {
     let taken = smaller != *small && found(&smaller);

@@ -68,8 +68,11 @@ impl Difference {
                 small.show(name, &found.expect("what is shrunk still differs"))
             }
             Difference::Bytes(case) => format!("{} bytes", case.bytes.len()),
-            Difference::Shown(shop, told) => {
-                shop_shrink::show_calls(&format!("the own panel shows: {told}"), board, shop)
+            Difference::Shown(shop, _) => {
+                let shown = |shop: &Shop| shop_own::found_of(board, shop);
+                let small = shop_shrink::with_fewer_calls(shop, |shop| shown(shop).is_some());
+                let told = shown(&small).expect("what is shrunk is still found");
+                shop_shrink::show_calls(&format!("what the own panel shows: {told}"), board, &small)
             }
         }
     }

@@ -14,7 +14,11 @@ const SEED: u64 = 1;
 const SHOPS: usize = 20_000;
 
 fn main() {
-    let arguments: Vec<u64> = env::args().skip(1).map(|word| word.parse().expect("a number")).collect();
+    let arguments: Result<Vec<u64>, _> = env::args().skip(1).map(|word| word.parse()).collect();
+    let Some(arguments) = arguments.ok().filter(|numbers| numbers.len() <= 2) else {
+        eprintln!("own_shops [SEED [SHOPS]]");
+        process::exit(2);
+    };
     let mut random = Random::new(arguments.first().copied().unwrap_or(SEED));
     let shops = arguments.get(1).map_or(SHOPS, |shops| *shops as usize);
     let mut test = ShopTest::new(&Handwritten, None);

@@ -10,10 +10,10 @@ use mizzencord_compare::random::Call;
 use mizzencord_compare::refusal::NOTHING_TO_DO;
 use mizzencord_compare::request::*;
 use mizzencord_compare::shop_prints::{self, PrintFinding};
-use mizzencord_compare::shop_shrink::{found, show, shrunk};
+use mizzencord_compare::shop_shrink::{found, show, shrunk, with_fewer_calls};
 use mizzencord_compare::shop_test::ShopTest;
 use mizzencord_compare::side_by_side::{findings, Check, Finding, Tally};
-use mizzencord_compare::{printout, shop_bus, wire};
+use mizzencord_compare::{printout, shop_bus, shop_own, wire};
 
 use crate::build::*;
 
@@ -241,4 +241,37 @@ fn a_stable_reply_that_another_replay_contradicts_is_found() {
         let calls = [accepted(Call::Hear(made)), settle, reply(response), idle()];
         assert_eq!(checks_that_find(&[account_of(2, &calls)]), found);
     }
+}
+
+/// A board that answers nothing but refusals: the own panel then shows requests
+/// that were not accepted.
+struct Refusing;
+
+impl Board for Refusing {
+    fn run(&self, list: &[u8], out: &mut [u8]) -> usize {
+        out.iter_mut().step_by(ANSWER_SIZE).for_each(|refusal| *refusal = NOTHING_TO_DO);
+        calls::count(list)
+    }
+
+    fn print(&self, input: &[u8], out: &mut [u8]) -> usize {
+        Handwritten.print(input, out)
+    }
+
+    fn read(&self, bytes: &[u8], at: usize, out: &mut [u8]) -> usize {
+        Handwritten.read(bytes, at, out)
+    }
+
+    fn write(&self, fields: &[u8], out: &mut [u8]) -> usize {
+        Handwritten.write(fields, out)
+    }
+}
+
+#[test]
+fn what_the_own_panel_shows_is_compared_and_shrunk() {
+    let shop = shop_bus::draw(1).shop.only(&[0]);
+    assert_eq!(shop_own::found_of(&Handwritten, &shop), None);
+    let told = "the order shown is not the one that the definition gives";
+    assert_eq!(shop_own::found_of(&Refusing, &shop).as_deref(), Some(told));
+    let small = with_fewer_calls(&shop, |shop| shop_own::found_of(&Refusing, shop).is_some());
+    assert!(shop.calls() > 1 && small.calls() == 1 && small.read.is_empty(), "{small:?}");
 }

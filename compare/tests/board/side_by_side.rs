@@ -205,6 +205,9 @@ fn a_stable_reply_stays_right() {
     assert_eq!((answer.mark, answer.response), (3, 7));
     give(&mut panel, &[(Call::Hear(strong(1, 2, 2, set(0, 9), &[])), 0), (settle(1, 2), 0)]);
     assert_eq!(settled(&panel), [(1, 1), (0, 1), (1, 2)]);
+    let list: Vec<Request> = panel.committed().iter().map(|slot| panel.request(*slot as usize)).collect();
+    assert_eq!(replay(&list[..2]).responses, [0, 7]);
+    assert_eq!(replay(&list).responses, [0, 7, 7]);
 }
 
 /// The cases of documents 01 and 02 about what operations do, in one replay.
