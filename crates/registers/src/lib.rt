@@ -8,7 +8,7 @@ ghost use Prim.Native.Nat.{_+_, _-_, min};
 ghost use mathlib.Core.Path.{_≡_};
 ghost use mathlib.Core.Bool.{false};
 ghost use Rattle.registers.specs.Effect.{range, offBoard, lowestHeld, allSet, MoveOnBoard, ClaimOnBoard, Executed};
-ghost use Rattle.registers.specs.Rollback.{savedOf, restored};
+ghost use Rattle.registers.specs.Rollback.{savedOf, restored, savedIn, SavedAs};
 ghost use Rattle.registers.specs.Replay.{zeroBoard};
 
 // The values of registers r and q from before an operation. Only this crate looks inside.
@@ -168,6 +168,27 @@ pub fn rollback(registers: &mut [u32; 64], o: Operation, s: Saved)
     }
     registers[o.r as usize] = s.r;
     registers[o.q as usize] = s.q;
+}
+
+// One past the greatest value of a register.
+const RANGE: u64 = u32::MAX as u64 + 1;
+
+// What was saved as one word: r in the lower half, q in the upper.
+pub fn saved_word(s: Saved) -> u64
+    ensures { λ w. ⌜ SavedAs s w ⌝ }
+{
+    let r = s.r as u64;
+    let q = s.q as u64;
+    r + RANGE * q
+}
+
+// What was saved in a word.
+pub fn saved_in(word: u64) -> Saved
+    ensures { λ s. ⌜ s ≡ savedIn word ⌝ }
+{
+    let r = (word % RANGE) as u32;
+    let q = (word / RANGE) as u32;
+    Saved { r: r, q: q }
 }
 
 // Whether o names a register over 63.
