@@ -74,7 +74,7 @@ pub fn member(s: Context, n: Number) -> bool
 }
 
 // The word in which only n's bit is set.
-fn mask(n: Number) -> u64
+pub fn mask(n: Number) -> u64
     requires { ⌜ GoodNumber mostPanels n ⌝ }
     ensures { λ r. ⌜ r ≡ maskOf n ⌝ }
 {
