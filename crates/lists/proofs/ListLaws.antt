@@ -21,7 +21,7 @@ one-true e = ap one e
 pub one-false : {b : Bool} → b ≡ false → one b ≡ 0
 one-false e = ap one e
 
-one-most : (b : Bool) → one b ≤ 1
+pub one-most : (b : Bool) → one b ≤ 1
 one-most true = omega arith
 one-most false = omega arith
 

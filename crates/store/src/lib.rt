@@ -1,4 +1,8 @@
 // What a panel keeps as numbers in arrays that it lends.
 //
-// `members` has sets of numbers, whose words are lent. The laws for a caller are in `proofs/`.
+// `requests` has the requests by slot, `members` sets of numbers, changed in place. The crate is internal to the replica: a function of
+// `requests` may require that its slot is one of the table's and that the arrays are as long as the table.
+//
+// Each contract cites a definition of `specs/`, or of the crate `sets`; the laws for a caller are in `proofs/`.
 pub mod members;
+pub mod requests;

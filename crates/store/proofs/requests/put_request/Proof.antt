@@ -1,0 +1,47 @@
+-- `put_request` meets its contract: one store for the clock and one for the word, and the words of the context.
+use lib.ListN.{length}
+use mathlib.Core.Path.{_≡_, refl}
+use borrow.Author.Needs.{needs}
+use Rattle.numbers.specs.Numbers.{mostPanels}
+use Rattle.store.proofs.RequestLaws.{stored}
+use Rattle.store.proofs.requests.put_request.Statement.{statement}
+use Rattle.store.proofs.requests.put_request.Tie as tie
+
+-- the type of the context's array says how many words there are
+count : (c : tie.Start) → length (c .args .x .context .words) ≡ mostPanels
+count c = search needs
+
+word-of-requires : tie.Need-word-of-requires
+word-of-requires c κs = search needs
+
+mul-clocks : tie.Need-mul-clocks
+mul-clocks c = search needs
+
+element-write-clocks : tie.Need-element-write-clocks
+element-write-clocks c = search needs
+
+mul-operations : tie.Need-mul-operations
+mul-operations c = search needs
+
+element-write-operations : tie.Need-element-write-operations
+element-write-operations c = search needs
+
+put-context-requires : tie.Need-put-context-requires
+put-context-requires c κs = search needs
+
+returns : tie.Need-returns
+returns c =
+    let s = c .before .before .before .before in
+    stored (s .args .x) (s .pre .0) (s .pre .1) (c .before .before .before .word-of .ensures) (count s) refl refl (c .put-context .ensures)
+
+pub put-request-spec : {M : Type 1} → statement M
+put-request-spec =
+    tie.close
+    (tie.spec
+    word-of-requires
+    mul-clocks
+    element-write-clocks
+    mul-operations
+    element-write-operations
+    put-context-requires
+    returns)

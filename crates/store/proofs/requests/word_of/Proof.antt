@@ -1,0 +1,87 @@
+-- `word_of` meets its contract: the types of the fields and a bit keep the sum in a word.
+use native.Mathlib.Omega.{arith}
+use mathlib.Core.Path.{_≡_, refl}
+use mathlib.Core.Bool.{Bool, true, false}
+use mir.Val.{boolByte}
+use borrow.Author.Needs.{needs}
+use Rattle.lists.specs.Lists.{one}
+use Rattle.lists.proofs.ListLaws.{one-most}
+use Rattle.store.specs.Requests.{wordOf}
+use Rattle.store.proofs.WordLaws.{Narrow, operation-read, strength-read}
+use Rattle.store.proofs.requests.word_of.Statement.{statement}
+use Rattle.store.proofs.requests.word_of.Tie as tie
+
+-- the number of a bool
+bool-number : (b : Bool) → boolByte b ≡ one b
+bool-number true = refl
+bool-number false = refl
+
+cast-code : tie.Need-cast-code
+cast-code c = search needs
+
+cast-r : tie.Need-cast-r
+cast-r c = search needs
+
+cast-q : tie.Need-cast-q
+cast-q c = search needs
+
+cast-amount : tie.Need-cast-amount
+cast-amount c = search needs
+
+cast-strength : tie.Need-cast-strength
+cast-strength c = search needs
+
+mul-result : tie.Need-mul-result
+mul-result c = search needs
+
+add-result : tie.Need-add-result
+add-result c = search needs
+
+mul-result-2 : tie.Need-mul-result-2
+mul-result-2 c = search needs
+
+add-result-2 : tie.Need-add-result-2
+add-result-2 c = search needs
+
+mul-result-3 : tie.Need-mul-result-3
+mul-result-3 c = let b = c .before .before .before .before .args .strong in omega (arith, bool-number b, one-most b)
+
+add-result-3 : tie.Need-add-result-3
+add-result-3 c = let b = c .before .before .before .before .args .strong in omega (arith, bool-number b, one-most b)
+
+mul-result-4 : tie.Need-mul-result-4
+mul-result-4 c = search needs
+
+add-result-4 : tie.Need-add-result-4
+add-result-4 c = let b = c .before .before .before .before .args .strong in omega (arith, bool-number b, one-most b)
+
+returns : tie.Need-returns
+unfolding wordOf
+returns c =
+    let a = c .before .before .before .before .args in
+    let narrow : Narrow (a .o) = search needs in
+    let bit = bool-number (a .strong) in
+    record {
+      word = rw bit;
+      operation = rw bit (operation-read (a .o) (a .strong) narrow);
+      strength = rw bit (strength-read (a .o) (a .strong) narrow);
+    }
+
+pub word-of-spec : {M : Type 1} → statement M
+word-of-spec =
+    tie.close
+    (tie.spec
+    cast-code
+    cast-r
+    cast-q
+    cast-amount
+    cast-strength
+    mul-result
+    add-result
+    mul-result-2
+    add-result-2
+    mul-result-3
+    add-result-3
+    mul-result-4
+    add-result-4
+    returns)

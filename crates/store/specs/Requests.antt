@@ -1,0 +1,86 @@
+-- Requests by slot in three arrays: the clocks, a word each of operation and strength, and the words of the contexts one after the other.
+use Prim.Native.Nat.{ℕ, _+_, _*_, _/_, _%_, _^_}
+use mathlib.Core.Path.{_≡_}
+use mathlib.Core.Bool.{Bool}
+use mathlib.Core.List.{List}
+use lib.ListN.{length, getD, set}
+use lib.Seq.{sets, slice}
+use lib.Dec.{eqb}
+use Rattle.lists.specs.Lists.{one}
+use Rattle.sets.specs.declared.Context.{Context}
+use Rattle.request.specs.declared.Operation.{Operation}
+use Rattle.request.specs.declared.Request.{Request}
+use Rattle.numbers.specs.Numbers.{clockReading, mostPanels, numberOf}
+use Rattle.sets.specs.Sets.{setOf}
+use Rattle.slots.specs.Slots.{mostSlots}
+
+-- ---- the word of operation and strength: eight bits each for code, r and q, one for the strength, and the upper half for the amount
+
+-- one past the greatest number in eight bits
+abbrev pub byte : ℕ
+byte = 2 ^ 8
+
+-- what r, q, the strength and the amount are multiplied by in the word; the code stands lowest
+abbrev pub unitR : ℕ
+unitR = 2 ^ 8
+
+abbrev pub unitQ : ℕ
+unitQ = 2 ^ 16
+
+abbrev pub unitStrength : ℕ
+unitStrength = 2 ^ 24
+
+abbrev pub unitAmount : ℕ
+unitAmount = 2 ^ 32
+
+-- the operation in a word
+unfoldable pub operationIn : ℕ → Operation
+operationIn w = record { code = w % byte; r = w / unitR % byte; q = w / unitQ % byte; amount = w / unitAmount }
+
+-- the strength in a word
+unfoldable pub strongIn : ℕ → Bool
+strongIn w = eqb (w / unitStrength % 2) 1
+
+-- the word of an operation and a strength
+unfoldable pub wordOf : Operation → Bool → ℕ
+wordOf o strong = o .code + unitR * o .r + unitQ * o .q + unitStrength * one strong + unitAmount * o .amount
+
+-- w is the word of o and the strength, which are read from it again
+pub record WordAs (o : Operation) (strong : Bool) (w : ℕ) : Type 0 where
+  pub word : w ≡ wordOf o strong
+  pub operation : operationIn w ≡ o
+  pub strength : strongIn w ≡ strong
+
+-- ---- a request at a slot
+
+-- the context at slot s: a word for each panel
+unfoldable pub contextAt : List ℕ → ℕ → Context
+contextAt contexts s = setOf (slice (mostPanels * s) (mostPanels * s + mostPanels) contexts)
+
+-- the request at slot s, which has the slot's number
+unfoldable pub requestAt : List ℕ → List ℕ → List ℕ → ℕ → Request
+requestAt clocks operations contexts s = record {
+  number = numberOf s;
+  clock = clockReading (getD clocks s 0);
+  operation = operationIn (getD operations s 0);
+  strong = strongIn (getD operations s 0);
+  context = contextAt contexts s;
+}
+
+-- how long the words of all contexts are
+abbrev pub mostWords : ℕ
+mostWords = mostPanels * mostSlots
+
+-- the three arrays are as long as the table needs
+pub record Long (cs os ws : List ℕ) : Type 0 where
+  pub clocks : length cs ≡ mostSlots
+  pub operations : length os ≡ mostSlots
+  pub contexts : length ws ≡ mostWords
+
+-- the arrays cs, os and ws became cs′, os′ and ws′: x was stored at a slot, where it is read again if that is its number's slot
+pub record Stored (cs os ws : List ℕ) (slot : ℕ) (x : Request) (cs′ os′ ws′ : List ℕ) : Type 0 where
+  pub clocks : cs′ ≡ set cs slot (x .clock .0)
+  pub operations : os′ ≡ set os slot (wordOf (x .operation) (x .strong))
+  pub contexts : ws′ ≡ sets ws (mostPanels * slot) (x .context .words)
+  pub words : length (x .context .words) ≡ mostPanels
+  pub there : x .number ≡ numberOf slot → requestAt cs′ os′ ws′ slot ≡ x

@@ -1,0 +1,144 @@
+// Requests by slot in three lent arrays: the clocks, a word each of operation and strength, the words of the contexts one after the other.
+use numbers::Clock;
+use request::Operation;
+use request::Request;
+use sets::Context;
+ghost use mathlib.Core.Path.{_≡_};
+ghost use Prim.Native.Nat.{_*_};
+ghost use lib.ListN.{length, getD};
+ghost use lib.Seq.{sets};
+ghost use Rattle.numbers.specs.Numbers.{mostPanels};
+ghost use Rattle.slots.specs.Slots.{IsSlot};
+ghost use Rattle.store.specs.Requests.{operationIn, strongIn, contextAt, requestAt, mostWords, WordAs, Long, Stored};
+
+// One past the greatest number in eight bits.
+const BYTE: u64 = 256;
+
+// What r, q, the strength and the amount are multiplied by in an operation's word; the code stands lowest.
+const UNIT_R: u64 = 256;
+
+const UNIT_Q: u64 = 65536;
+
+const UNIT_STRENGTH: u64 = 16777216;
+
+const UNIT_AMOUNT: u64 = 4294967296;
+
+// The words of a context.
+const WORDS: usize = numbers::MOST_PANELS as usize;
+
+// The operation in a word.
+fn operation_in(word: u64) -> Operation
+    ensures { λ o. ⌜ o ≡ operationIn word ⌝ }
+{
+    let code = (word % BYTE) as u8;
+    let r = (word / UNIT_R % BYTE) as u8;
+    let q = (word / UNIT_Q % BYTE) as u8;
+    let amount = (word / UNIT_AMOUNT) as u32;
+    Operation { code, r, q, amount }
+}
+
+// The operation at a slot.
+pub fn operation_at(operations: &[u64; 512], slot: usize) -> Operation
+    requires { ⌜ IsSlot slot ⌝ }
+    ensures { λ o. ⌜ o ≡ operationIn (getD (now (operations .entry)) slot 0) ⌝ }
+{
+    let word = operations[slot];
+    operation_in(word)
+}
+
+// Whether the request at a slot is strong.
+pub fn strong_at(operations: &[u64; 512], slot: usize) -> bool
+    requires { ⌜ IsSlot slot ⌝ }
+    ensures { λ b. ⌜ b ≡ strongIn (getD (now (operations .entry)) slot 0) ⌝ }
+{
+    let word = operations[slot];
+    word / UNIT_STRENGTH % 2 == 1
+}
+
+// The context at a slot.
+pub fn context_at(contexts: &[u64; 4096], slot: usize) -> Context
+    requires { ⌜ IsSlot slot × (length (now contexts) ≡ mostWords) ⌝ }
+    ensures { λ c. ⌜ c ≡ contextAt (now (contexts .entry)) slot ⌝ }
+{
+    let at = WORDS * slot;
+    let mut words = [0u64; 8];
+    let mut i = 0;
+    while i < WORDS {
+        let word = contexts[at + i];
+        words[i] = word;
+        i += 1;
+    }
+    Context { words }
+}
+
+// The request at a slot.
+pub fn request_at<'a>(
+    clocks: &'a [u32; 512],
+    operations: &'a [u64; 512],
+    contexts: &'a [u64; 4096],
+    slot: u16,
+) -> Request
+    requires { ⌜ IsSlot slot × Long (now clocks) (now operations) (now contexts) ⌝ }
+    ensures { λ x. ⌜ x ≡ requestAt (now (clocks .entry)) (now (operations .entry)) (now (contexts .entry)) slot ⌝ }
+{
+    let s = slot as usize;
+    let clock = clocks[s];
+    let number = numbers::number_of(slot);
+    let operation = operation_at(operations, s);
+    let strong = strong_at(operations, s);
+    let context = context_at(contexts, s);
+    Request {
+        number,
+        clock: Clock(clock),
+        operation,
+        strong,
+        context,
+    }
+}
+
+// The word of an operation and a strength.
+fn word_of(o: Operation, strong: bool) -> u64
+    ensures { λ w. ⌜ WordAs o strong w ⌝ }
+{
+    let code = o.code as u64;
+    let r = o.r as u64;
+    let q = o.q as u64;
+    let amount = o.amount as u64;
+    let strength = strong as u64;
+    code + UNIT_R * r + UNIT_Q * q + UNIT_STRENGTH * strength + UNIT_AMOUNT * amount
+}
+
+// Puts a context at a slot.
+fn put_context(contexts: &mut [u64; 4096], slot: usize, c: Context)
+    requires { ⌜ IsSlot slot ⌝ }
+    ensures { λ _. ⌜ now (contexts .exit) ≡ sets (now (contexts .entry)) (mostPanels * slot) (c .words) ⌝ }
+{
+    let at = WORDS * slot;
+    let mut i = 0;
+    while i < WORDS {
+        let word = c.words[i];
+        contexts[at + i] = word;
+        i += 1;
+    }
+}
+
+// Puts a request at a slot.
+pub fn put_request(
+    clocks: &mut [u32; 512],
+    operations: &mut [u64; 512],
+    contexts: &mut [u64; 4096],
+    slot: u16,
+    x: Request,
+)
+    requires { ⌜ IsSlot slot × Long (now clocks) (now operations) (now contexts) ⌝ }
+    ensures { λ _. ⌜ Stored (now (clocks .entry)) (now (operations .entry)) (now (contexts .entry)) slot x
+        (now (clocks .exit)) (now (operations .exit)) (now (contexts .exit)) ⌝ }
+{
+    let s = slot as usize;
+    let clock = x.clock.0;
+    let word = word_of(x.operation, x.strong);
+    let context = x.context;
+    clocks[s] = clock;
+    operations[s] = word;
+    put_context(contexts, s, context);
+}
