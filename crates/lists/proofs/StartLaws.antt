@@ -1,11 +1,11 @@
--- Laws of the start of a list: an element at a place and whether a start reaches it; the length of a common start.
+-- Laws of the start of a list: an element at a place and whether a start reaches it; the common start of two lists.
 use Prim.Native.Nat.{ℕ, zero, suc, _+_, _-_, _≤_, _<_}
 use native.Mathlib.Omega.{arith}
 use mathlib.Core.Path.{_≡_, refl, sym, ap, _∙_}
 use mathlib.Core.Bool.{Bool, true, false, cond}
 use mathlib.Core.List.{List, [], _∷_, _++_}
 use lib.ListN.{length, take, drop, getD, length-take, length-drop, take-append-drop}
-use lib.Seq.{getD-take, getD-drop, take-append-le, take-append-add}
+use lib.Seq.{slice, getD-take, getD-drop, take-take, take-append-le, take-append-add, length-take-le}
 use lib.Dec.{leb, ltb}
 use borrow.Author.Tests.{leb-true, leb-false, ltb-true, ltb-false, le-leb, lt-leb}
 use Rattle.lists.specs.Lists.{count, somePasses, commonStart}
@@ -45,6 +45,27 @@ module _ {A : Type 0} where
             let there : p (getD (drop n l) (k - n) d) ≡ true = ap p (getD-drop n l (k - n) d ∙ ap (λ (j : ℕ). getD l j d) place) ∙ e in
             let behind = count-at (drop n l) (k - n) d (simp length-drop (omega arith)) there in
             lt-leb 1 (count p (take n l)) (omega (arith, parts))
+
+-- ---- the common start of two lists that agree up to a place
+
+module _ {A : Type 0} (same : A → A → Bool) (self : (x : A) → same x x ≡ true) where
+  commonStart-behind : (k : ℕ) (xs ys : List A) → k ≤ length xs → k ≤ length ys → take k xs ≡ take k ys
+      → k + commonStart same (drop k xs) (drop k ys) ≡ commonStart same xs ys
+  commonStart-behind zero xs ys h l e = omega arith
+  commonStart-behind (suc k) [] ys h l e = absurd (omega arith)
+  commonStart-behind (suc k) (x ∷ xs) [] h l e = absurd (omega arith)
+  commonStart-behind (suc k) (x ∷ xs) (y ∷ ys) h l e =
+      let rest : take k xs ≡ take k ys = cc in
+      let first : x ≡ y = cc in
+      rw (← first, self x) (omega (arith, commonStart-behind k xs ys (omega arith) (omega arith) rest))
+
+  -- of the first n of one and the first m of the other, it may be looked for from that place on
+  pub commonStart-from : (xs ys : List A) (n m at : ℕ) → at ≤ n → at ≤ m → n ≤ length xs → m ≤ length ys → take at xs ≡ take at ys
+      → at + commonStart same (slice at n xs) (slice at m ys) ≡ commonStart same (take n xs) (take m ys)
+  commonStart-from xs ys n m at first second first-inside second-inside e =
+      commonStart-behind at (take n xs) (take m ys) (rw (length-take-le n xs first-inside) first)
+      (rw (length-take-le m ys second-inside) second)
+      (take-take at n xs first ∙ e ∙ sym (take-take at m ys second))
 
 -- ---- an element behind a list
 

@@ -1,5 +1,5 @@
--- Laws of slots: a part of an order, room for one more; slots and their numbers, membership by words; clock order; a set without
--- some slots.
+-- Laws of slots: a part of an order, the common start of two lists, room for one more; slots and their numbers, membership by words;
+-- clock order; a set without some slots.
 use Prim.Native.Nat.{ℕ, _+_, _-_, _/_, _%_, _≤_, _<_}
 use native.Mathlib.Omega.{arith}
 use mathlib.Core.Path.{_≡_, refl, sym, ap, _∙_}
@@ -9,12 +9,13 @@ use lib.ListN.{length, take, getD, set}
 use lib.Seq.{slice, getD-set-other}
 use lib.Dec.{eqb, ltb}
 use borrow.Author.Tests.{eq-eqb, ne-eqb, eqb-true, lt-ltb, ltb-true, ltb-false}
-use Rattle.lists.specs.Lists.{one, count, keep}
+use Rattle.lists.specs.Lists.{one, count, keep, commonStart}
 use Rattle.lists.specs.Places.{All}
 use Rattle.lists.proofs.BoolLaws.{same-test}
 use Rattle.lists.proofs.ListLaws.{count-all, count-never, pigeonhole}
 use Rattle.lists.proofs.MapLaws.{count-agree}
 use Rattle.lists.proofs.AllLaws.{all-of, all-weaken, all-drop, all-slice-at}
+use Rattle.lists.proofs.StartLaws.{commonStart-from}
 use Rattle.lists.proofs.StepLaws.{keep-taken, keep-passed, keep-end}
 use Rattle.sets.specs.declared.Context.{Context}
 use Rattle.request.specs.declared.Request.{Request}
@@ -45,6 +46,13 @@ pub comparison-asked : (clocks order : List ℕ) (from to i : ℕ) → OrderAsks
     → ComparisonAsks clocks (getD order i 0)
 comparison-asked clocks order from to i h low high =
     record { clocks-long = h .clocks-long; slot = part-slot order from to i (h .part) low high }
+
+-- ---- the common start
+
+-- of two lists that agree up to `at`, the common start may be looked for from there on
+pub common-from : (xs ys : List ℕ) (n m at : ℕ) → at ≤ n → at ≤ m → n ≤ length xs → m ≤ length ys → take at xs ≡ take at ys
+    → at + commonStart eqb (slice at n xs) (slice at m ys) ≡ commonStart eqb (take n xs) (take m ys)
+common-from = commonStart-from eqb (λ x. eq-eqb x x refl)
 
 -- ---- room
 
