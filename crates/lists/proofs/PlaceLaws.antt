@@ -7,7 +7,7 @@ use mathlib.Core.Path.{_≡_, refl, sym, ap, _∙_}
 use mathlib.Core.Bool.{Bool, true, false, not, cond}
 use mathlib.Core.List.{List, [], _∷_, _++_}
 use lib.ListN.{length, take, drop, getD, set, replicate}
-use lib.Seq.{take-take, drop-drop, slice-empty}
+use lib.Seq.{take-take, drop-drop, getD-drop, slice-empty}
 use lib.Dec.{eqb}
 use borrow.Author.Tests.{eqb-true}
 use Rattle.lists.specs.Lists.{one, count, consIf, keep, insert}
@@ -21,6 +21,12 @@ module _ {A : Type 0} where
   drop-further n k s t h e =
       let sum : n + (k - n) ≡ k = omega arith in
       rw (← sum) (sym (drop-drop (k - n) n s) ∙ ap (drop (k - n)) e ∙ drop-drop (k - n) n t)
+
+  -- and at every later place
+  pub getD-further : (n k : ℕ) (s t : List A) (d : A) → n ≤ k → drop n s ≡ drop n t → getD s k d ≡ getD t k d
+  getD-further n k s t d h e =
+      let sum : n + (k - n) ≡ k = omega arith in
+      rw (← sum) (sym (getD-drop n s (k - n) d) ∙ ap (λ (l : List A). getD l (k - n) d) e ∙ getD-drop n t (k - n) d)
 
   -- ---- the place
 

@@ -1,5 +1,5 @@
 -- The laws of lists of slots, for this crate's proofs and for the replica.
 pub mod SlotLaws
 pub mod InsertionLaws
-pub mod SelectionLaws
+pub mod SeparationLaws
 pub mod SettlementLaws

@@ -1,13 +1,14 @@
--- Laws of the order after a settlement: its parts are the whole, two selections around a store make it, and what is committed and
+-- Laws of the order after a settlement: its parts are the whole, a separation, a store and a copy make it, and what is committed and
 -- tentative then.
-use Prim.Native.Nat.{ℕ, _+_, _≤_}
+use Prim.Native.Nat.{ℕ, _+_, _-_, _≤_, _<_}
 use native.Mathlib.Omega.{arith}
 use native.Mathlib.Numerals.{add-one}
 use mathlib.Core.Path.{_≡_, refl, sym, ap, _∙_}
 use mathlib.Core.Bool.{Bool, true, false, not, _&&_}
 use mathlib.Core.List.{List, [], _∷_, _++_, append-assoc}
-use lib.ListN.{length, take, drop, set, replicate, length-append}
-use lib.Seq.{slice, take-take, take-suc-set, drop-set-lt, take-at, drop-at, length-slice, length-take-le}
+use lib.ListN.{length, take, drop, set, replicate, length-set, length-append}
+use lib.Seq.{slice, paste, take-take, take-suc-set, drop-set-lt, take-at, drop-at, take-paste, drop-paste, length-paste, length-slice}
+use lib.Seq.{length-take-le}
 use lib.Dec.{eqb}
 use borrow.Author.Tests.{eqb-true}
 use Rattle.lists.specs.Lists.{count, keep}
@@ -15,9 +16,9 @@ use Rattle.lists.specs.Places.{All}
 use Rattle.lists.proofs.AllLaws.{all-of, all-append, all-keep}
 use Rattle.lists.proofs.ListLaws.{count-append, count-all, count-split}
 use Rattle.lists.proofs.MapLaws.{keep-agree}
-use Rattle.lists.proofs.PlaceLaws.{drop-further, keep-equal}
+use Rattle.lists.proofs.PlaceLaws.{keep-equal}
 use Rattle.slots.specs.Slots.{inWords}
-use Rattle.slots.specs.Settlement.{stays, onSide, Selected, settled, SettlementAsks, Settled}
+use Rattle.slots.specs.Settlement.{stays, Separated, PutAsks, settled, SettlementAsks, Settled}
 
 -- ---- the parts are the whole
 
@@ -69,28 +70,53 @@ module _ (xs : List ℕ) (from to : ℕ) (words : List ℕ) (s : ℕ) (h : Settl
         length-slice from to xs (omega (arith, h .part)),
       )
 
-  -- ---- a selection of those named, a store of s, and a selection of those that stay
+  -- ---- a separation, a store of s behind those named, and a copy of those that stay behind it
 
-  module _ (zs : List ℕ) (own : ℕ) (named : Selected (onSide words s true) xs from xs from to zs own)
-      (ys : List ℕ) (end : ℕ) (staying : Selected (onSide words s false) (set zs own s) (own + 1) xs from to ys end) where
-    all-placed : end ≡ to
-    all-placed = omega (arith, named .count, staying .count, settlement-fits)
+  module _ (ys zs : List ℕ) (own : ℕ) (d : Separated xs from to words s ys zs own) where
+    -- there is a place for s
+    pub own-inside : own < to
+    own-inside = omega (arith, d .end, settlement-fits)
 
-    committed-front : take (own + 1) (set zs own s) ≡ (take from xs ++ keep (inWords words) (slice from to xs)) ++ (s ∷ [])
+    pub put-asked : PutAsks (set ys own s) (own + 1) zs (to - (own + 1))
+    put-asked = record {
+      room = omega (arith, own-inside, h .part .inside);
+      long = length-set ys own s ∙ d .long;
+      source-long = d .staying-long;
+    }
+
+    -- those that stay fill the places behind it
+    behind : own + 1 + (to - (own + 1)) ≡ to
+    behind = omega (arith, own-inside)
+
+    left : to - (own + 1) ≡ length (keep (stays words s) (slice from to xs))
+    left = omega (arith, d .end, settlement-fits)
+
+    committed-front : take (own + 1) (set ys own s) ≡ (take from xs ++ keep (inWords words) (slice from to xs)) ++ (s ∷ [])
     committed-front =
-        rw (add-one own, take-suc-set zs own s (omega (arith, h .part, named .long, named .count, settlement-fits)))
-        (ap (λ (r : List ℕ). r ++ (s ∷ [])) (named .first))
+        rw (add-one own, take-suc-set ys own s (omega (arith, h .part, d .long, own-inside)))
+        (ap (λ (r : List ℕ). r ++ (s ∷ [])) (d .named))
 
-    pub settled-by : Settled xs from to words s ys (own + 1)
+    -- the order in the end
+    abbrev copied : List ℕ
+    copied = paste (set ys own s) (own + 1) zs (to - (own + 1))
+
+    pub settled-by : Settled xs from to words s copied (own + 1)
     unfolding settled
     settled-by = record {
-      committed = omega (arith, named .count);
-      first = ap (λ (k : ℕ). take k ys) (sym all-placed) ∙ staying .first ∙ simp (committed-front, append-assoc);
+      committed = omega (arith, d .end);
+      first =
+          ap (λ (k : ℕ). take k copied) (sym behind)
+          ∙ take-paste (set ys own s) (own + 1) zs (to - (own + 1)) (omega (arith, put-asked)) (omega (arith, put-asked))
+          ∙ ap (λ (k : ℕ). take (own + 1) (set ys own s) ++ take k zs) left
+          ∙ simp (committed-front, d .staying, append-assoc);
       rest =
-          ap (λ (k : ℕ). drop k ys) (sym all-placed) ∙ staying .rest ∙ ap (λ (k : ℕ). drop k (set zs own s)) all-placed
-          ∙ drop-set-lt to zs own s (omega (arith, named .count, settlement-fits))
-          ∙ drop-further own to zs xs (omega (arith, named .count, settlement-fits)) (named .rest);
-      long = staying .long;
+          ap (λ (k : ℕ). drop k copied) (sym behind)
+          ∙ drop-paste (set ys own s) (own + 1) zs (to - (own + 1)) (omega (arith, put-asked)) (omega (arith, put-asked))
+          ∙ ap (λ (k : ℕ). drop k (set ys own s)) behind
+          ∙ drop-set-lt to ys own s own-inside ∙ d .rest;
+      long =
+          length-paste (set ys own s) (own + 1) zs (to - (own + 1)) (omega (arith, put-asked)) (omega (arith, put-asked))
+          ∙ put-asked .long;
     }
 
 -- ---- after a settlement

@@ -1,7 +1,7 @@
--- The order after a settlement, and the selection of which it is made.
+-- The order after a settlement, and the steps by which it is made.
 use Prim.Native.Nat.{ℕ, _+_, _≤_}
 use mathlib.Core.Path.{_≡_}
-use mathlib.Core.Bool.{Bool, false, not, _||_, cond}
+use mathlib.Core.Bool.{Bool, false, not, _||_}
 use mathlib.Core.List.{List, _∷_, _++_}
 use lib.ListN.{length, take, drop}
 use lib.Seq.{slice}
@@ -13,23 +13,26 @@ use Rattle.slots.specs.Slots.{mostSlots, Part, inWords}
 unfoldable pub stays : List ℕ → ℕ → ℕ → Bool
 stays words s t = not (inWords words t || eqb s t)
 
--- the side asked for: named in the context, or staying tentative
-abbrev pub onSide : List ℕ → ℕ → Bool → ℕ → Bool
-onSide words s named t = cond named (inWords words t) (stays words s t)
+-- ---- separation of the places from..to: those named to the front of these places, those that stay into another array
 
--- ---- selection: to the first n of xs are appended those of the places from..to of ys that pass the test
-
-pub record SelectionAsks (test : ℕ → Bool) (xs : List ℕ) (n : ℕ) (ys : List ℕ) (from to : ℕ) : Type 0 where
-  pub part : Part ys from to
-  pub room : n + length (keep test (slice from to ys)) ≤ mostSlots
-  pub long : length xs ≡ mostSlots
-
--- xs became zs, and the count r
-pub record Selected (test : ℕ → Bool) (xs : List ℕ) (n : ℕ) (ys : List ℕ) (from to : ℕ) (zs : List ℕ) (r : ℕ) : Type 0 where
-  pub count : r ≡ n + length (keep test (slice from to ys))
-  pub first : take r zs ≡ take n xs ++ keep test (slice from to ys)
-  pub rest : drop r zs ≡ drop r xs
+pub record SeparationAsks (xs : List ℕ) (from to : ℕ) (zs : List ℕ) : Type 0 where
+  pub part : Part xs from to
   pub long : length zs ≡ mostSlots
+
+-- xs became ys, in which those named end at r, and zs begins with those that stay
+pub record Separated (xs : List ℕ) (from to : ℕ) (words : List ℕ) (s : ℕ) (ys zs : List ℕ) (r : ℕ) : Type 0 where
+  pub end : r ≡ from + length (keep (inWords words) (slice from to xs))
+  pub named : take r ys ≡ take from xs ++ keep (inWords words) (slice from to xs)
+  pub staying : take (length (keep (stays words s) (slice from to xs))) zs ≡ keep (stays words s) (slice from to xs)
+  pub rest : drop to ys ≡ drop to xs
+  pub long : length ys ≡ mostSlots
+  pub staying-long : length zs ≡ mostSlots
+
+-- what putting the first n of ys at the places of xs from `at` on asks
+pub record PutAsks (xs : List ℕ) (at : ℕ) (ys : List ℕ) (n : ℕ) : Type 0 where
+  pub room : at + n ≤ mostSlots
+  pub long : length xs ≡ mostSlots
+  pub source-long : length ys ≡ mostSlots
 
 -- ---- the order after a settlement
 

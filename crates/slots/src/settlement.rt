@@ -2,8 +2,9 @@
 // that stay tentative.
 ghost use mathlib.Core.Path.{_≡_};
 ghost use Prim.Native.Nat.{_<_};
+ghost use lib.Seq.{paste};
 ghost use Rattle.slots.specs.Slots.{mostSlots, inWords};
-ghost use Rattle.slots.specs.Settlement.{onSide, SelectionAsks, Selected, SettlementAsks, Settled};
+ghost use Rattle.slots.specs.Settlement.{SeparationAsks, Separated, PutAsks, SettlementAsks, Settled};
 
 const EVENTS: u16 = numbers::MOST_EVENTS as u16;
 
@@ -18,43 +19,46 @@ pub fn in_words(words: &[u64; 8], t: u16) -> bool
     (word >> bit) % 2 == 1
 }
 
-// Whether slot t is on the side asked for when the request of that slot is settled: those named, or those that stay.
-fn on_side(words: &[u64; 8], slot: u16, named: bool, t: u16) -> bool
-    requires { ⌜ t < mostSlots ⌝ }
-    ensures { λ r. ⌜ r ≡ onSide (now (words .entry)) slot named t ⌝ }
-{
-    let inside = in_words(words, t);
-    if named {
-        return inside;
-    }
-    !(inside | (slot == t))
-}
-
-// Appends to the first n of xs those of the places from..to of ys that are on the side asked for, in their order; the new count.
-fn select<'a>(
-    xs: &mut [u16; 512],
-    n: usize,
-    ys: &'a [u16; 512],
+// Of the places from..to of the order, those named are moved to the front of these places, and those that stay are put at the front of
+// the other array, both in their order; the place where those named end. A slot is stored on both sides, and counted where it belongs.
+fn separate(
+    order: &mut [u16; 512],
+    staying: &mut [u16; 512],
     from: usize,
     to: usize,
-    words: &'a [u64; 8],
+    words: &[u64; 8],
     slot: u16,
-    named: bool,
 ) -> usize
-    requires { ⌜ SelectionAsks (onSide (now words) slot named) (now xs) n (now ys) from to ⌝ }
-    ensures { λ r. ⌜ Selected (onSide (now (words .entry)) slot named) (now (xs .entry)) n (now (ys .entry)) from to (now (xs .exit)) r ⌝ }
+    requires { ⌜ SeparationAsks (now order) from to (now staying) ⌝ }
+    ensures { λ r. ⌜ Separated (now (order .entry)) from to (now (words .entry)) slot (now (order .exit)) (now (staying .exit)) r ⌝ }
 {
-    let mut count = n;
+    let mut own = from;
+    let mut count = 0;
     let mut i = from;
     while i < to {
-        let t = ys[i];
-        if on_side(words, slot, named, t) {
-            xs[count] = t;
-            count += 1;
-        }
+        let t = order[i];
+        let named = in_words(words, t);
+        let stays = !(named | (slot == t));
+        order[own] = t;
+        staying[count] = t;
+        own += named as usize;
+        count += stays as usize;
         i += 1;
     }
-    count
+    own
+}
+
+// Puts the first n of ys at the places of xs from `at` on.
+fn put_first(xs: &mut [u16; 512], at: usize, ys: &[u16; 512], n: usize)
+    requires { ⌜ PutAsks (now xs) at (now ys) n ⌝ }
+    ensures { λ _. ⌜ now (xs .exit) ≡ paste (now (xs .entry)) at (now (ys .entry)) n ⌝ }
+{
+    let mut i = 0;
+    while i < n {
+        let y = ys[i];
+        xs[at + i] = y;
+        i += 1;
+    }
 }
 
 // Puts the places from..to of the order, the tentative slots, into the order of a settlement of that slot with that context; how many
@@ -69,10 +73,10 @@ pub fn settle_order(
     requires { ⌜ SettlementAsks (now order) from to (now words) slot ⌝ }
     ensures { λ r. ⌜ Settled (now (order .entry)) from to (now (words .entry)) slot (now (order .exit)) r ⌝ }
 {
-    let old = *order;
-    let own = select(order, from, &old, from, to, words, slot, true);
+    let mut staying = [0u16; 512];
+    let own = separate(order, &mut staying, from, to, words, slot);
     order[own] = slot;
     let committed = own + 1;
-    select(order, committed, &old, from, to, words, slot, false);
+    put_first(order, committed, &staying, to - committed);
     committed
 }

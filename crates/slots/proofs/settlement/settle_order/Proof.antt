@@ -1,56 +1,46 @@
 -- `settlement::settle_order` meets its contract; its laws are in `SettlementLaws`.
 use Prim.Native.Nat.{_<_}
-use native.Mathlib.Omega.{arith}
-use lib.ListN.{length-set}
-use Rattle.slots.specs.Slots.{mostSlots}
-use Rattle.slots.proofs.SettlementLaws.{settlement-fits, settled-by}
+use borrow.Author.Needs.{needs}
+use Rattle.slots.proofs.SettlementLaws.{own-inside, put-asked, settled-by}
 use Rattle.slots.proofs.settlement.settle_order.Statement.{statement}
 use Rattle.slots.proofs.settlement.settle_order.Tie as tie
 
-select-requires : tie.Need-select-requires
-select-requires c κs =
-    let a = c .before .before .before in
-    record {
-      part = a .pre .part;
-      room = omega (arith, a .pre .part, settlement-fits _ _ _ _ _ (a .pre));
-      long = a .pre .part .long;
-    }
+separate-requires : tie.Need-separate-requires
+separate-requires c κs = search needs
 
-own-inside : (c : tie.After-select) → c .select .result < mostSlots
-own-inside c =
-    let a = c .before .before .before .before in
-    omega (arith, a .pre .part, c .select .ensures .count, settlement-fits _ _ _ _ _ (a .pre))
+-- there is a place for the settled slot
+own-below : (c : tie.After-separate) → c .separate .result < c .before .before .before .args .to
+own-below c = own-inside _ _ _ _ _ (c .before .before .before .pre) _ _ _ (c .separate .ensures)
 
 mul-order : tie.Need-mul-order
-mul-order c = omega (arith, own-inside c)
+mul-order c = search (needs, own-below c)
 
 element-write-order : tie.Need-element-write-order
-element-write-order c = omega (arith, own-inside c)
+element-write-order c = search (needs, own-below c)
 
 add-committed : tie.Need-add-committed
-add-committed c = omega (arith, own-inside c)
+add-committed c = search (needs, own-below c)
 
-select-requires-2 : tie.Need-select-requires-2
-select-requires-2 c κs =
-    let a = c .before .before .before .before .before .before in
-    record {
-      part = a .pre .part;
-      room = omega (arith, a .pre .part, c .before .before .select .ensures .count, settlement-fits _ _ _ _ _ (a .pre));
-      long = simp length-set (c .before .before .select .ensures .long);
-    }
+sub-put-first : tie.Need-sub-put-first
+sub-put-first c = search (needs, own-below (c .before .before))
+
+put-first-requires : tie.Need-put-first-requires
+put-first-requires c κs =
+    put-asked _ _ _ _ _ (c .before .before .before .before .before .pre) _ _ _ (c .before .before .separate .ensures)
 
 returns : tie.Need-returns
 returns c =
-    let a = c .before .before .before .before .before .before .before in
-    settled-by _ _ _ _ _ (a .pre) _ _ (c .before .before .before .select .ensures) _ _ (c .select2 .ensures)
+    let a = c .before .before .before .before .before .before in
+    rw (c .put-first .ensures) (settled-by _ _ _ _ _ (a .pre) _ _ _ (c .before .before .before .separate .ensures))
 
 pub settle-order-spec : {M : Type 1} → statement M
 settle-order-spec =
     tie.close
     (tie.spec
-    select-requires
+    separate-requires
     mul-order
     element-write-order
     add-committed
-    select-requires-2
+    sub-put-first
+    put-first-requires
     returns)
