@@ -1,5 +1,5 @@
 -- Two panels side by side, of the panels themselves (`specs/Agreement`): the theorems `panel-grows` and `panels-side-by-side`.
-use Prim.Native.Nat.{ℕ, _-_}
+use Prim.Native.Nat.{ℕ}
 use mathlib.Core.Path.{_≡_, sym, ap, _∙_}
 use mathlib.Core.List.{List, []}
 use Rattle.request.specs.declared.Request.{Request}
@@ -21,10 +21,10 @@ use Rattle.replica.specs.Model.{model}
 use Rattle.replica.specs.Due.{RunDue}
 use Rattle.replica.specs.Shown.{RegisterShown, PlaceShown}
 use Rattle.history.specs.History.{stay}
-use Rattle.history.specs.PanelHistory.{single, PanelHistory, historyOf}
+use Rattle.history.specs.PanelHistory.{PanelHistory, historyOf}
 use Rattle.history.specs.Agreement.{callAt, answerAt, PanelGrows, PanelsAgree, PanelsSideBySide}
-use Rattle.history.proofs.History.{registers-model}
-use Rattle.history.proofs.PanelHistory.{leads-due-model, last-inv, last-replica, last-sound}
+use Rattle.history.proofs.History.{leads-model, registers-model}
+use Rattle.history.proofs.PanelHistory.{last-inv, last-replica, last-sound}
 use Rattle.history.proofs.StableReplies.{stable-single}
 
 -- ---- one panel
@@ -36,7 +36,7 @@ module _ {panels own : ℕ} (p : PanelHistory panels own) where
         let grown = grows-at-end (model (p .last)) further .grows in
         record {
           behind = grown .behind;
-          is = ap (λ (r : Replica). r .book .plan .committed) (leads-due-model (last-inv p) leads) ∙ grown .is;
+          is = ap (λ (r : Replica). r .book .plan .committed) (leads-model (last-inv p) leads) ∙ grown .is;
         };
   }
 
@@ -85,7 +85,7 @@ module _ {panels own own′ : ℕ} (p : PanelHistory panels own) (q : PanelHisto
         registers-replayed p r ran ∙ ap (λ (l : List Request). replay (operations l)) (alike .standing-order)
         ∙ sym (registers-replayed q s ran′);
     told-stable = λ place mark.
-        stable-single p place mark [] [] (p .last) (single stay)
+        stable-single p place mark [] [] (p .last) stay
         ∙ ap (responseIn (repliedTo (callAt (p .calls) place) (answerAt (p .answers) place))) (alike .committed);
   }
 

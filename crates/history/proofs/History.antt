@@ -1,9 +1,9 @@
--- Demand 3 of the panel, for every list of calls: what the calls lead through is what `creek` runs through, and the theorem
--- `panel-demand-3`.
+-- Demand 3 of the panel, for every list of calls with all due steps at once among them: what the calls lead through is what `creek` runs
+-- through, and the theorem `panel-demand-3`.
 use Prim.Native.Nat.{ℕ, zero, suc, _≤_, _<_}
 use native.Mathlib.Omega.{arith}
 use mathlib.Core.Path.{_≡_, refl, sym, ap, _∙_}
-use mathlib.Core.List.{List, [], _∷_}
+use mathlib.Core.List.{List, [], _∷_, _++_}
 use lib.ListN.{replicate}
 use lib.Dec.{eqb}
 use Rattle.request.specs.Refusal as refused
@@ -17,14 +17,27 @@ use Rattle.creek.specs.History.{run, due, settleDown, dueCalls}
 use Rattle.creek.proofs.DueLaws.{due-calls, run-due}
 use Rattle.creek.specs.Showing.{owedShown}
 use Rattle.creek.specs.Demand.{Demand3}
-use Rattle.creek.proofs.CallLaws.{answer-refusal, step-book, run-book}
+use Rattle.creek.proofs.CallLaws.{answer-refusal, step-book, run-book, run-append}
 use Rattle.creek.proofs.Demand.{demand-3}
 use Rattle.replica.specs.declared.State.{State}
 use Rattle.replica.specs.declared.Opened.{Opened}
+use Rattle.replica.specs.declared.Ran.{Ran}
 use Rattle.replica.specs.Model.{model, Inv, Fresh}
+use Rattle.replica.specs.Due.{stepsOwed, RunDue}
 use Rattle.replica.proofs.ExecuteLaws.{registers-are}
-use Rattle.history.specs.History.{Leads, stay, call, refusalsIn, openedBook, refusals, answersTo}
+use Rattle.history.specs.History.{openedBook, refusals, answersTo, stepsDue, answersDue, Leads, stay, call, all-due, refusalsIn}
 use Rattle.history.specs.History.{DueStepsDone, PanelDemand3}
+
+-- ---- all due steps at once, and the single steps
+
+-- all due steps at once lead where the single steps lead
+due-model : (p : State) (r : Ran) → RunDue p r → model (r .state) ≡ run (model p) (stepsDue p)
+due-model p r ran = ran .state ∙ sym (run-due (stepsOwed p) (model p))
+
+answers-append : (r : Replica) (cs ds : List Call) → answersTo r (cs ++ ds) ≡ answersTo r cs ++ answersTo (run r cs) ds
+unfolding answersTo run
+answers-append r [] ds = refl
+answers-append r (c ∷ cs) ds = ap (λ (l : List Answer). answer r c ∷ l) (answers-append (step r c) cs ds)
 
 -- ---- from one call to a list of calls
 
@@ -32,6 +45,7 @@ use Rattle.history.specs.History.{DueStepsDone, PanelDemand3}
 pub leads-inv : {p q : State} {cs : List Call} {answers : List Answer} → Inv p → Leads p cs answers q → Inv q
 leads-inv inv stay = inv
 leads-inv inv (call r kept rest) = leads-inv (kept inv .invariant) rest
+leads-inv inv (all-due r ran rest) = leads-inv (ran inv .invariant) rest
 
 -- the replica that the last state stands for is the one that `creek` runs to
 pub leads-model : {p q : State} {cs : List Call} {answers : List Answer} → Inv p → Leads p cs answers q → model q ≡ run (model p) cs
@@ -39,6 +53,9 @@ unfolding run
 leads-model inv stay = refl
 leads-model inv (call {cs = cs} r kept rest) =
     leads-model (kept inv .invariant) rest ∙ ap (λ (x : Replica). run x cs) (kept inv .state)
+leads-model inv (all-due {p = p} {cs = cs} r ran rest) =
+    leads-model (ran inv .invariant) rest ∙ ap (λ (x : Replica). run x cs) (due-model p r (ran inv))
+    ∙ sym (run-append (model p) (stepsDue p) cs)
 
 -- the answers are the ones that `creek` gives
 pub leads-answers : {p q : State} {cs : List Call} {answers : List Answer} → Inv p → Leads p cs answers q → answers ≡ answersTo (model p) cs
@@ -48,6 +65,9 @@ leads-answers inv (call {cs = cs} r kept rest) =
     let first = kept inv .answer in
     let others = leads-answers (kept inv .invariant) rest ∙ ap (λ (x : Replica). answersTo x cs) (kept inv .state) in
     λ i. first i ∷ others i
+leads-answers inv (all-due {p = p} {cs = cs} r ran rest) =
+    let others = leads-answers (ran inv .invariant) rest ∙ ap (λ (x : Replica). answersTo x cs) (due-model p r (ran inv)) in
+    ap (λ (l : List Answer). answersDue p ++ l) others ∙ sym (answers-append (model p) (stepsDue p) cs)
 
 -- ---- what the book says
 

@@ -1,6 +1,6 @@
--- What was called on a panel leads it to the replica that `creek` runs to, with `creek`'s answers; and these tell what was accepted,
+-- Of a panel and what was called on it since fresh: the replica that it stands for, and that its answers tell what was accepted,
 -- `panel-tells` (`specs/PanelHistory`).
-use Prim.Native.Nat.{ℕ, _-_}
+use Prim.Native.Nat.{ℕ}
 use mathlib.Core.Path.{_≡_, refl, sym, ap, _∙_}
 use mathlib.Core.Bool.{cond}
 use mathlib.Core.List.{List, [], _∷_, _++_}
@@ -12,54 +12,14 @@ use Rattle.creek.specs.Plan.{Plan}
 use Rattle.creek.specs.Book.{Call, invoke, deliver, commit, undo, execute, Book, refusal, isAccepted}
 use Rattle.creek.specs.Replies.{acceptedAnswer}
 use Rattle.creek.specs.Calls.{Replica, fresh, step, answer}
-use Rattle.creek.specs.History.{run}
 use Rattle.creek.specs.Sound.{Sound}
 use Rattle.creek.specs.Agreement.{broughtBy, settledBy, gathered, replicaAfter}
-use Rattle.creek.proofs.CallLaws.{by-outcome, answer-refusal, step-book, run-append}
-use Rattle.creek.proofs.DueLaws.{run-due}
+use Rattle.creek.proofs.CallLaws.{by-outcome, answer-refusal, step-book}
 use Rattle.creek.proofs.SoundLaws.{reached-sound}
-use Rattle.replica.specs.declared.State.{State}
-use Rattle.replica.specs.declared.Ran.{Ran}
 use Rattle.replica.specs.Model.{model, Inv}
-use Rattle.replica.specs.Due.{stepsOwed, RunDue}
 use Rattle.history.specs.History.{answersTo}
-use Rattle.history.specs.PanelHistory.{stepsDue, LeadsDue, single, all-due, PanelHistory, historyOf, requestTold, settlementTold, told, PanelTells}
-use Rattle.history.proofs.History.{leads-inv, leads-model, leads-answers}
-
--- ---- from single calls and all due steps at once to a list of calls
-
--- all due steps at once lead where the single steps lead
-due-model : (m : State) (r : Ran) → RunDue m r → model (r .state) ≡ run (model m) (stepsDue m)
-due-model m r ran = ran .state ∙ sym (run-due (stepsOwed m) (model m))
-
-answers-append : (r : Replica) (cs ds : List Call) → answersTo r (cs ++ ds) ≡ answersTo r cs ++ answersTo (run r cs) ds
-unfolding answersTo run
-answers-append r [] ds = refl
-answers-append r (c ∷ cs) ds = ap (λ (l : List Answer). answer r c ∷ l) (answers-append (step r c) cs ds)
-
-pub leads-due-inv : {p q : State} {cs : List Call} {answers : List Answer} → Inv p → LeadsDue p cs answers q → Inv q
-leads-due-inv inv (single led) = leads-inv inv led
-leads-due-inv inv (all-due led r ran rest) = leads-due-inv (ran (leads-inv inv led) .invariant) rest
-
-pub leads-due-model : {p q : State} {cs : List Call} {answers : List Answer} → Inv p → LeadsDue p cs answers q → model q ≡ run (model p) cs
-leads-due-model inv (single led) = leads-model inv led
-leads-due-model {p = p} inv (all-due {m = m} {calls = cs} {further = ds} led r ran rest) =
-    let keeps = ran (leads-inv inv led) in
-    leads-due-model (keeps .invariant) rest ∙ ap (λ (x : Replica). run x ds) (due-model m r keeps)
-    ∙ sym (run-append (model m) (stepsDue m) ds) ∙ ap (λ (x : Replica). run x (stepsDue m ++ ds)) (leads-model inv led)
-    ∙ sym (run-append (model p) cs (stepsDue m ++ ds))
-
-pub leads-due-answers : {p q : State} {cs : List Call} {answers : List Answer} → Inv p → LeadsDue p cs answers q → answers ≡ answersTo (model p) cs
-leads-due-answers inv (single led) = leads-answers inv led
-leads-due-answers {p = p} inv (all-due {m = m} {calls = cs} {further = ds} led r ran rest) =
-    let keeps = ran (leads-inv inv led) in
-    let first = leads-answers inv led in
-    let then =
-    leads-due-answers (keeps .invariant) rest ∙ ap (λ (x : Replica). answersTo x ds) (due-model m r keeps) in
-    (λ i. first i ++ (answersTo (model m) (stepsDue m) ++ then i))
-    ∙ ap (λ (l : List Answer). answersTo (model p) cs ++ l) (sym (answers-append (model m) (stepsDue m) ds))
-    ∙ ap (λ (x : Replica). answersTo (model p) cs ++ answersTo x (stepsDue m ++ ds)) (leads-model inv led)
-    ∙ sym (answers-append (model p) cs (stepsDue m ++ ds))
+use Rattle.history.specs.PanelHistory.{PanelHistory, historyOf, requestTold, settlementTold, told, PanelTells}
+use Rattle.history.proofs.History.{panel-inv, panel-replica, panel-demand-3}
 
 -- ---- what was accepted, as the answers tell
 
@@ -101,13 +61,13 @@ settlement-told b awaiting execute = refl
 
 module _ {panels own : ℕ} (p : PanelHistory panels own) where
   pub last-inv : Inv (p .last)
-  last-inv = leads-due-inv (p .begun .invariant) (p .led)
+  last-inv = panel-inv (p .begun) (p .led)
 
   pub last-replica : model (p .last) ≡ replicaAfter (historyOf p)
-  last-replica = leads-due-model (p .begun .invariant) (p .led) ∙ ap (λ (r : Replica). run r (p .calls)) (p .begun .state)
+  last-replica = panel-replica (p .begun) (p .led)
 
   pub last-answers : p .answers ≡ answersTo (fresh panels own) (p .calls)
-  last-answers = leads-due-answers (p .begun .invariant) (p .led) ∙ ap (λ (r : Replica). answersTo r (p .calls)) (p .begun .state)
+  last-answers = panel-demand-3 (p .begun) (p .led) .answered
 
   pub last-sound : Sound (model (p .last))
   last-sound = rw last-replica (reached-sound panels own (p .calls))

@@ -27,10 +27,11 @@ use Rattle.replica.specs.declared.Ran.{Ran}
 use Rattle.replica.specs.declared.DueReply.{DueReply}
 use Rattle.replica.specs.Model.{model}
 use Rattle.replica.specs.Due.{noReply, replyIn, isAwaited, dueCall, dueReplies, mostReplies, stepsOwed, repliesOwed, RunDue}
-use Rattle.history.specs.History.{answersTo}
-use Rattle.history.specs.PanelHistory.{LeadsDue, single, all-due, PanelHistory, historyOf}
+use Rattle.history.specs.History.{answersTo, Leads}
+use Rattle.history.specs.PanelHistory.{PanelHistory, historyOf}
 use Rattle.history.specs.Agreement.{settledList, callAt, answerAt, replyAt, PanelStableReplies}
-use Rattle.history.proofs.PanelHistory.{leads-due-model, last-inv, last-replica, last-answers, last-sound}
+use Rattle.history.proofs.History.{leads-model}
+use Rattle.history.proofs.PanelHistory.{last-inv, last-replica, last-answers, last-sound}
 
 -- ---- stable replies of `creek`, in a list of answers and in the replies of due steps
 
@@ -85,13 +86,13 @@ zeros-stand l (suc n) = ((λ mark. absurd (omega arith)), zeros-stand l n)
 
 module _ {panels own : ℕ} (p : PanelHistory panels own) where
   pub stable-single : (place : ℕ) → answerAt (p .answers) place .mark ≡ stableMark → (further : List Call) (more : List Answer) (later : State)
-      → LeadsDue (p .last) further more later
+      → Leads (p .last) further more later
       → answerAt (p .answers) place .response
       ≡ responseIn (repliedTo (callAt (p .calls) place) (answerAt (p .answers) place)) (settledList later)
   stable-single place mark further more later leads =
       told (p .answers) (last-answers p) mark
       (ap (λ (r : Replica). r .book .plan .committed)
-      (leads-due-model (last-inv p) leads ∙ ap (λ (r : Replica). run r further) (last-replica p)))
+      (leads-model (last-inv p) leads ∙ ap (λ (r : Replica). run r further) (last-replica p)))
     where
       told : (answers : List Answer) → answers ≡ answersTo (fresh panels own) (p .calls) → answerAt answers place .mark ≡ stableMark
           → settledList later ≡ run (replicaAfter (historyOf p)) further .book .plan .committed
@@ -101,14 +102,14 @@ module _ {panels own : ℕ} (p : PanelHistory panels own) where
           rw (settled, is) (stable-in-answers (fresh panels own) (p .calls) further place (fresh-sound panels own) (rw is at mark))
 
   stable-due : (r : Ran) → RunDue (p .last) r → (place : ℕ) → replyAt r place .mark ≡ stableMark
-      → (further : List Call) (more : List Answer) (later : State) → LeadsDue (r .state) further more later
+      → (further : List Call) (more : List Answer) (later : State) → Leads (r .state) further more later
       → replyAt r place .response ≡ responseIn (replyAt r place .number) (settledList later)
   stable-due r ran place mark further more later leads =
       all-anywhere (StandsIn (settledList later)) (r .replies) place noReply (λ m. absurd (omega arith)) stand mark
     where
       settled : settledList later ≡ run (settleDown (stepsOwed (p .last)) (model (p .last))) further .book .plan .committed
       settled = ap (λ (q : Replica). q .book .plan .committed)
-          (leads-due-model (ran .invariant) leads ∙ ap (λ (q : Replica). run q further) (ran .state))
+          (leads-model (ran .invariant) leads ∙ ap (λ (q : Replica). run q further) (ran .state))
 
       zeros : ℕ
       zeros = mostReplies - length (repliesOwed (p .last))

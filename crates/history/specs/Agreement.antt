@@ -19,7 +19,8 @@ use Rattle.replica.specs.declared.PlacedRequest.{PlacedRequest}
 use Rattle.replica.specs.Model.{model}
 use Rattle.replica.specs.Due.{noReply, RunDue}
 use Rattle.replica.specs.Shown.{RegisterShown, PlaceShown}
-use Rattle.history.specs.PanelHistory.{LeadsDue, PanelHistory, historyOf}
+use Rattle.history.specs.History.{Leads}
+use Rattle.history.specs.PanelHistory.{PanelHistory, historyOf}
 
 -- ---- one panel
 
@@ -42,19 +43,20 @@ replyAt r place = getD (r .replies) place noReply
 
 -- whatever is called on it then, its settled list only grows at its end
 pub record PanelGrows {panels own : ℕ} (p : PanelHistory panels own) : Type 0 where
-  pub grows : (further : List Call) (more : List Answer) (later : State) → LeadsDue (p .last) further more later
+  pub grows : (further : List Call) (more : List Answer) (later : State) → Leads (p .last) further more later
       → Extends (settledList (p .last)) (settledList later)
 
 -- each stable reply that it gave is that request's response in one replay of the settled list, then and whatever is called on it later
 pub record PanelStableReplies {panels own : ℕ} (p : PanelHistory panels own) : Type 0 where
-  -- of a carry-out or a settlement: every place in the list of answers that has mark 3
+  -- of a carry-out or a settlement: every place in the list of answers that has mark 3, where all due steps at once stand for the answers of
+  -- the single steps
   pub single : (place : ℕ) → answerAt (p .answers) place .mark ≡ stableMark
-      → (further : List Call) (more : List Answer) (later : State) → LeadsDue (p .last) further more later
+      → (further : List Call) (more : List Answer) (later : State) → Leads (p .last) further more later
       → answerAt (p .answers) place .response
       ≡ responseIn (repliedTo (callAt (p .calls) place) (answerAt (p .answers) place)) (settledList later)
-  -- of all due steps at once: every place in the replies that has mark 3
+  -- of all due steps at once: every place in the replies that they gave that has mark 3
   pub all-due : (r : Ran) → RunDue (p .last) r → (place : ℕ) → replyAt r place .mark ≡ stableMark
-      → (further : List Call) (more : List Answer) (later : State) → LeadsDue (r .state) further more later
+      → (further : List Call) (more : List Answer) (later : State) → Leads (r .state) further more later
       → replyAt r place .response ≡ responseIn (replyAt r place .number) (settledList later)
 
 -- ---- two panels of one shop

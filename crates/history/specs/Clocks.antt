@@ -17,7 +17,7 @@ use Rattle.history.specs.History.{refusalsIn}
 abbrev pub isClockBack : ℕ → Bool
 isClockBack w = eqb w refused.clockBack
 
--- of the answers to the calls and of the panel q to which they led
+-- of the answers to the calls and of the panel q to which they led; all due steps at once stand for the answers of the single steps
 pub record PanelClocks (answers : List Answer) (q : State) : Type 0 where
   -- no call is answered with 5
   pub never-back : count isClockBack (refusalsIn answers) ≡ 0

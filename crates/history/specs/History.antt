@@ -1,8 +1,8 @@
--- A list of calls on a panel: the states and answers that it leads through, each call keeping its contract; what the shift book says of
--- the same calls; and demand 3 as a statement about the panel's last state. Every list of calls keeps it: `panel-demand-3` in
--- `proofs/History`.
+-- A list of calls on a panel, all due steps at once among them: the states and answers that it leads through, each call keeping its
+-- contract; what the shift book says of the same calls; and demand 3 as a statement about the panel's last state. Every list of calls
+-- keeps it: `panel-demand-3` in `proofs/History`.
 use Rattle.counters.specs.Counted.{mostSteps}
-use Prim.Native.Nat.{ℕ, zero, suc, _+_, _≤_}
+use Prim.Native.Nat.{ℕ, _+_, _≤_}
 use mathlib.Core.Path.{_≡_}
 use mathlib.Core.Bool.{Bool}
 use mathlib.Core.List.{List, [], _∷_, _++_, map}
@@ -21,20 +21,9 @@ use Rattle.creek.specs.Showing.{requestsShown, commitsShown, undosShown, execut
 use Rattle.creek.specs.Demand.{mostUndos}
 use Rattle.replica.specs.declared.State.{State}
 use Rattle.replica.specs.declared.Called.{Called}
+use Rattle.replica.specs.declared.Ran.{Ran}
 use Rattle.replica.specs.Model.{model, Inv, Kept}
-
--- ---- the panel
-
--- from p those calls lead to q with those answers: each call gets the state that the last one returned, and keeps its contract, which
--- supposes the invariant
-pub data Leads : State → List Call → List Answer → State → Type 0 where
-  stay : {p : State} → Leads p [] [] p
-  call : {p q : State} {c : Call} {cs : List Call} {answers : List Answer} (r : Called)
-      → (Inv p → Kept p c r) → Leads (r .state) cs answers q → Leads p (c ∷ cs) (r .answer ∷ answers) q
-
--- the refusal number of each answer
-abbrev pub refusalsIn : List Answer → List ℕ
-refusalsIn answers = map (λ (a : Answer). a .refusal) answers
+use Rattle.replica.specs.Due.{stepsOwed, RunDue}
 
 -- ---- the shift book, fed the calls alone
 
@@ -51,6 +40,30 @@ refusals b (c ∷ cs) = refusal b c ∷ refusals (noted b c) cs
 unfoldable pub answersTo : Replica → List Call → List Answer
 answersTo r [] = []
 answersTo r (c ∷ cs) = answer r c ∷ answersTo (step r c) cs
+
+-- ---- the panel
+
+-- the single steps that all due steps at once stand for on p: as many as it owes, each the step that is due then
+abbrev pub stepsDue : State → List Call
+stepsDue p = dueCalls (stepsOwed p) (model p .book)
+
+-- the answers that these would have had
+abbrev pub answersDue : State → List Answer
+answersDue p = answersTo (model p) (stepsDue p)
+
+-- from p those calls lead to q with those answers: each of the five calls, and all due steps at once wherever they are called, get the
+-- state that the last one returned and keep their contract, which supposes the invariant; all due steps at once stand in the lists for
+-- the single steps and their answers
+pub data Leads : State → List Call → List Answer → State → Type 0 where
+  stay : {p : State} → Leads p [] [] p
+  call : {p q : State} {c : Call} {cs : List Call} {answers : List Answer} (r : Called)
+      → (Inv p → Kept p c r) → Leads (r .state) cs answers q → Leads p (c ∷ cs) (r .answer ∷ answers) q
+  all-due : {p q : State} {cs : List Call} {answers : List Answer} (r : Ran)
+      → (Inv p → RunDue p r) → Leads (r .state) cs answers q → Leads p (stepsDue p ++ cs) (answersDue p ++ answers) q
+
+-- the refusal number of each answer
+abbrev pub refusalsIn : List Answer → List ℕ
+refusalsIn answers = map (λ (a : Answer). a .refusal) answers
 
 -- ---- demand 3 of the panel
 
@@ -73,7 +86,8 @@ module _ (panels own : ℕ) (calls : List Call) where
   abbrev pub acceptedCalls : (Call → Bool) → ℕ
   acceptedCalls kind = acceptedIn (openedBook panels own) calls kind
 
-  -- what holds of the panel q to which they led, with those answers, from what fresh returned
+  -- what holds of the panel q to which they led, with those answers, from what fresh returned; all due steps at once, wherever they were
+  -- called, stand in the list for the single steps (`stepsDue`), and in the answers for theirs (`answersDue`)
   pub record PanelDemand3 (answers : List Answer) (q : State) : Type 0 where
     -- the panel's five lists and its known set are the book's, and with them the requests on the board, due and idle
     pub book : model q .book ≡ shiftBook
@@ -95,7 +109,7 @@ module _ (panels own : ℕ) (calls : List Call) where
     pub executions-shown : executionsShown (model q) ≡ acceptedCalls isExecute
     -- what it reports owed is what the book owes
     pub owed-shown : owedShown (model q) ≡ owed (shiftBook .execution)
-    -- if from there only the step that is due is called
+    -- if from there only the step that is due is called, singly or all at once
     pub settles : (k : ℕ) (more : List Answer) (last : State) → k ≤ owedShown (model q) → Leads q (dueCalls k shiftBook) more last
         → DueStepsDone q k more last
     -- the unsettled list is in clock order

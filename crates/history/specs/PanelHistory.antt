@@ -10,37 +10,22 @@ use Rattle.request.specs.declared.Request.{Request}
 use Rattle.request.specs.Refusal as refused
 use Rattle.creek.specs.declared.Answer.{Answer}
 use Rattle.creek.specs.Book.{Call, invoke, deliver, commit, undo, execute}
-use Rattle.creek.specs.History.{dueCalls}
 use Rattle.creek.specs.Agreement.{History, requestsIn, settlementsIn}
 use Rattle.replica.specs.declared.State.{State}
 use Rattle.replica.specs.declared.Opened.{Opened}
-use Rattle.replica.specs.declared.Ran.{Ran}
-use Rattle.replica.specs.Model.{model, Inv, Fresh}
-use Rattle.replica.specs.Due.{stepsOwed, RunDue}
-use Rattle.history.specs.History.{Leads, answersTo}
+use Rattle.replica.specs.Model.{Fresh}
+use Rattle.history.specs.History.{Leads}
 
 -- ---- what was called on a panel
 
--- the steps that all due steps at once stand for
-abbrev pub stepsDue : State → List Call
-stepsDue p = dueCalls (stepsOwed p) (model p .book)
-
--- those calls lead from p to q with those answers: single calls, and between them all due steps at once, which stand for the single steps
--- and their answers; every call keeps its contract, which supposes the invariant
-pub data LeadsDue : State → List Call → List Answer → State → Type 0 where
-  single : {p q : State} {calls : List Call} {answers : List Answer} → Leads p calls answers q → LeadsDue p calls answers q
-  all-due : {p m q : State} {calls further : List Call} {answers more : List Answer} → Leads p calls answers m
-      → (r : Ran) → (Inv m → RunDue m r) → LeadsDue (r .state) further more q
-      → LeadsDue p (calls ++ (stepsDue m ++ further)) (answers ++ (answersTo (model m) (stepsDue m) ++ more)) q
-
--- a panel of a shop of P: what fresh returned, and what was called on it since
+-- a panel of a shop of P: what fresh returned, and what was called on it since, where all due steps at once stand for the single steps
 pub record PanelHistory (panels own : ℕ) : Type 0 where
   pub opened : Opened
   pub begun : Fresh panels own opened
   pub calls : List Call
   pub answers : List Answer
   pub last : State
-  pub led : LeadsDue (opened .state) calls answers last
+  pub led : Leads (opened .state) calls answers last
 
 -- its history as `creek` has it: P, the own panel and the calls
 abbrev pub historyOf : {panels own : ℕ} → PanelHistory panels own → History
@@ -70,7 +55,8 @@ told by [] answers = []
 told by (c ∷ cs) [] = []
 told by (c ∷ cs) (v ∷ vs) = cond (eqb (v .refusal) refused.accepted) (by c v) [] ++ told by cs vs
 
--- what the shift book accepts among the calls is what the panel told
+-- what the shift book accepts among the calls is what the panel told; all due steps at once stand for undos and carry-outs, which tell of no
+-- request and no settlement
 pub record PanelTells {panels own : ℕ} (p : PanelHistory panels own) : Type 0 where
   pub requests : requestsIn (historyOf p) ≡ told requestTold (p .calls) (p .answers)
   pub settlements : settlementsIn (historyOf p) ≡ told settlementTold (p .calls) (p .answers)
