@@ -1,4 +1,5 @@
--- Only due steps: each is accepted while something is owed and leaves the plan as it was, and after as many as are owed nothing is.
+-- Only due steps: each is accepted while something is owed and leaves the plan as it was, and after as many as are owed nothing is; the
+-- undos and executions that were owed are then counted as done.
 use Prim.Native.Nat.{ℕ, zero, suc, _+_, _≤_, _<_}
 use native.Mathlib.Omega.{arith}
 use mathlib.Core.Path.{_≡_, refl, sym, ap, _∙_}
@@ -16,29 +17,51 @@ use Rattle.creek.specs.Execution.{Execution, operations, registers, isId
 use Rattle.creek.specs.Book.{Call, undo, execute, Book, refusal, isAccepted, accepted}
 use Rattle.creek.specs.Calls.{Replica, accept, step}
 use Rattle.creek.specs.History.{run, due, settleDown, dueCalls}
-use Rattle.creek.specs.Showing.{undosShown, owedShown}
+use Rattle.creek.specs.Showing.{undosShown, executionsShown, owedShown}
 use Rattle.creek.specs.Sound.{Sound}
 use Rattle.creek.proofs.CallLaws.{step-book}
 use Rattle.creek.proofs.ExecutionLaws.{undone-todo, undone-rollback, executed-rollback, executes, undo-due}
 use Rattle.creek.proofs.ExecutionLaws.{execute-due, idle-owed, busy-owed, idle-board}
 use Rattle.creek.proofs.SoundLaws.{step-sound}
 
--- the due step is accepted while something is owed; one less is owed then, and the plan is as it was
-record Due (r : Replica) : Type 0 where
-  taken : refusal (r .book) (due (r .book .execution)) ≡ refused.accepted
-  less : suc (owedShown (accept r (due (r .book .execution)))) ≡ owedShown r
+-- the undos done and those owed number together the same in q as in r, and so do the executions
+record SameTotals (r q : Replica) : Type 0 where
+  undos : undosShown q + length (q .book .execution .rollback) ≡ undosShown r + length (r .book .execution .rollback)
+  executions : executionsShown q + length (q .book .execution .todo) ≡ executionsShown r + length (r .book .execution .todo)
 
-due-step : (r : Replica) → 1 ≤ owedShown r → Due r
+-- the step is accepted, and does one of those that are owed
+record DoesOne (r : Replica) (c : Call) : Type 0 where
+  taken : refusal (r .book) c ≡ refused.accepted
+  less : suc (owedShown (accept r c)) ≡ owedShown r
+  totals : SameTotals r (accept r c)
+
+-- the due step does while something is owed
+due-step : (r : Replica) → 1 ≤ owedShown r → DoesOne r (due (r .book .execution))
 unfolding refusal accept accepted
-due-step r h = record { taken = go (isNil (e .rollback)) refl .0; less = go (isNil (e .rollback)) refl .1 }
+due-step r h = go (isNil (e .rollback)) refl
   where
     e : Execution
     e = r .book .execution
 
-    go : (v : Bool) → isNil (e .rollback) ≡ v → let c = cond v execute undo in
-        (refusal (r .book) c ≡ refused.accepted) × (suc (owedShown (accept r c)) ≡ owedShown r)
-    go true f = let t = execute-due e f h in (t, omega (arith, executes e t, ap length (executed-rollback e)))
-    go false f = let t = undo-due e f in (t, omega (arith, undone-rollback e t, ap length (undone-todo e)))
+    go : (v : Bool) → isNil (e .rollback) ≡ v → DoesOne r (cond v execute undo)
+    go true f =
+        let t = execute-due e f h in
+        let todo = executes e t .todo-less in
+        let rollback = ap length (executed-rollback e) in
+        record {
+          taken = t;
+          less = omega (arith, todo, rollback);
+          totals = record { undos = omega (arith, rollback); executions = omega (arith, todo) };
+        }
+    go false f =
+        let t = undo-due e f in
+        let todo = ap length (undone-todo e) in
+        let rollback = undone-rollback e t in
+        record {
+          taken = t;
+          less = omega (arith, todo, rollback);
+          totals = record { undos = omega (arith, rollback); executions = omega (arith, todo) };
+        }
 
 pub step-accepted : (r : Replica) (c : Call) → refusal (r .book) c ≡ refused.accepted → step r c ≡ accept r c
 unfolding step
@@ -66,6 +89,16 @@ later-owed (suc k) r h =
     let d = due-step r (omega arith) in
     let o = ap owedShown (step-accepted r (due (r .book .execution)) (d .taken)) in
     omega (arith, later-owed k (step r (due (r .book .execution))) (omega (arith, d .less)), d .less)
+
+later-totals : (k : ℕ) (r : Replica) → k ≤ owedShown r → SameTotals r (settleDown k r)
+unfolding settleDown
+later-totals zero r h = record { undos = refl; executions = refl }
+later-totals (suc k) r h =
+    let d = due-step r (omega arith) in
+    let same = step-accepted r (due (r .book .execution)) (d .taken) in
+    let now : SameTotals r (step r (due (r .book .execution))) = rw same (d .totals) in
+    let later = later-totals k (step r (due (r .book .execution))) (omega (arith, d .less, ap owedShown same)) in
+    record { undos = later .undos ∙ now .undos; executions = later .executions ∙ now .executions }
 
 pub later-sound : (k : ℕ) (r : Replica) → Sound r → Sound (settleDown k r)
 unfolding settleDown
@@ -99,6 +132,20 @@ module _ (r : Replica) (i : Sound r) where
       let last = later-owed (owedShown r) r (omega arith) in
       let on-board = idle-board (settleDown (owedShown r) r .book .execution) (later-sound (owedShown r) r i .follows) (omega arith) in
       ap (λ (l : List Request). replay (operations l)) (on-board ∙ ap order (later-plan (owedShown r) r))
+
+-- as many due steps as are owed do each undo and each execution that is owed
+module _ (r : Replica) where
+  none-left : owedShown (settleDown (owedShown r) r) ≡ 0
+  none-left = omega (arith, later-owed (owedShown r) r (omega arith))
+
+  totals : SameTotals r (settleDown (owedShown r) r)
+  totals = later-totals (owedShown r) r (omega arith)
+
+  pub undos-done : undosShown (settleDown (owedShown r) r) ≡ undosShown r + length (r .book .execution .rollback)
+  undos-done = omega (arith, none-left, totals .undos)
+
+  pub executions-done : executionsShown (settleDown (owedShown r) r) ≡ executionsShown r + length (r .book .execution .todo)
+  executions-done = omega (arith, none-left, totals .executions)
 
 -- ---- undos done never fall
 
