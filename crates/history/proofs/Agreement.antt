@@ -1,19 +1,16 @@
 -- Two panels side by side, of the panels themselves (`specs/Agreement`): the theorems `panel-grows` and `panels-side-by-side`.
 use Prim.Native.Nat.{ℕ}
-use mathlib.Core.Path.{_≡_, sym, ap, _∙_}
+use mathlib.Core.Path.{_≡_, refl, sym, ap, _∙_}
 use mathlib.Core.List.{List, []}
 use Rattle.request.specs.declared.Request.{Request}
 use Rattle.registers.specs.Replay.{replay}
 use Rattle.creek.specs.Plan.{order}
-use Rattle.creek.specs.Execution.{operations, registers}
-use Rattle.creek.specs.Book.{refusal}
+use Rattle.creek.specs.Execution.{operations}
 use Rattle.creek.specs.Replies.{responseIn}
 use Rattle.creek.specs.Calls.{Replica}
 use Rattle.creek.specs.StableReply.{repliedTo}
-use Rattle.creek.specs.Agreement.{AcceptedSame, Idle}
-use Rattle.creek.specs.Agreement.{SideBySide}
+use Rattle.creek.specs.Agreement.{AcceptedSame, Idle, SideBySide}
 use Rattle.creek.proofs.Agreement.{grows-at-end, side-by-side}
-use Rattle.creek.proofs.DueLaws.{replayed}
 use Rattle.replica.specs.declared.Ran.{Ran}
 use Rattle.replica.specs.declared.RegisterValue.{RegisterValue}
 use Rattle.replica.specs.declared.PlacedRequest.{PlacedRequest}
@@ -23,8 +20,8 @@ use Rattle.replica.specs.Shown.{RegisterShown, PlaceShown}
 use Rattle.history.specs.History.{stay}
 use Rattle.history.specs.PanelHistory.{PanelHistory, historyOf}
 use Rattle.history.specs.Agreement.{callAt, answerAt, PanelGrows, PanelsAgree, PanelsSideBySide}
-use Rattle.history.proofs.History.{leads-model, registers-model}
-use Rattle.history.proofs.PanelHistory.{last-inv, last-replica, last-sound}
+use Rattle.history.proofs.History.{leads-model, registers-model, panel-demand-3}
+use Rattle.history.proofs.PanelHistory.{last-inv, last-replica}
 use Rattle.history.proofs.StableReplies.{stable-single}
 
 -- ---- one panel
@@ -43,9 +40,7 @@ module _ {panels own : ℕ} (p : PanelHistory panels own) where
   -- all due steps leave one replay of the standing order in the registers
   registers-replayed : (r : Ran) → RunDue (p .last) r
       → r .state .registers ≡ replay (operations (order (model (p .last) .book .plan)))
-  registers-replayed r ran =
-      registers-model (r .state) (ran .invariant) ∙ ap (λ (q : Replica). registers (q .book .execution)) (ran .state)
-      ∙ replayed (model (p .last)) (last-sound p)
+  registers-replayed r ran = panel-demand-3 (p .begun) (p .led) .settles-at-once r ran .steps .replayed refl
 
 -- ---- two panels
 

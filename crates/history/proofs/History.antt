@@ -1,11 +1,13 @@
 -- Demand 3 of the panel, for every list of calls with all due steps at once among them: what the calls lead through is what `creek` runs
 -- through, and the theorem `panel-demand-3`.
-use Prim.Native.Nat.{ℕ, zero, suc, _≤_, _<_}
+use Prim.Native.Nat.{ℕ, zero, suc, _-_, _≤_, _<_}
 use native.Mathlib.Omega.{arith}
 use mathlib.Core.Path.{_≡_, refl, sym, ap, _∙_}
-use mathlib.Core.List.{List, [], _∷_, _++_}
-use lib.ListN.{replicate}
+use mathlib.Core.Bool.{Bool, true, false}
+use mathlib.Core.List.{List, [], _∷_, _++_, map}
+use lib.ListN.{length, replicate}
 use lib.Dec.{eqb}
+use Rattle.lists.specs.Lists.{consIf, keep}
 use Rattle.request.specs.Refusal as refused
 use Rattle.registers.specs.Replay.{replay}
 use Rattle.creek.specs.declared.Answer.{Answer}
@@ -13,20 +15,21 @@ use Rattle.creek.specs.Plan.{order}
 use Rattle.creek.specs.Execution.{operations, registers, owed, isIdle}
 use Rattle.creek.specs.Book.{Call, Book, refusal, notedAll}
 use Rattle.creek.specs.Calls.{Replica, fresh, step, answer}
-use Rattle.creek.specs.History.{run, due, settleDown, dueCalls}
-use Rattle.creek.proofs.DueLaws.{due-calls, run-due}
-use Rattle.creek.specs.Showing.{owedShown}
+use Rattle.creek.specs.History.{run, settleDown, dueCalls}
+use Rattle.creek.proofs.DueLaws.{due-calls, run-due, undos-done, executions-done}
+use Rattle.creek.specs.Showing.{undosShown, executionsShown, owedShown}
 use Rattle.creek.specs.Demand.{Demand3}
 use Rattle.creek.proofs.CallLaws.{answer-refusal, step-book, run-book, run-append}
 use Rattle.creek.proofs.Demand.{demand-3}
 use Rattle.replica.specs.declared.State.{State}
 use Rattle.replica.specs.declared.Opened.{Opened}
 use Rattle.replica.specs.declared.Ran.{Ran}
+use Rattle.replica.specs.declared.DueReply.{DueReply}
 use Rattle.replica.specs.Model.{model, Inv, Fresh}
-use Rattle.replica.specs.Due.{stepsOwed, RunDue}
+use Rattle.replica.specs.Due.{noReply, replyIn, isAwaited, dueCall, dueReplies, mostReplies, stepsOwed, repliesOwed, RunDue}
 use Rattle.replica.proofs.ExecuteLaws.{registers-are}
 use Rattle.history.specs.History.{openedBook, refusals, answersTo, stepsDue, answersDue, Leads, stay, call, all-due, refusalsIn}
-use Rattle.history.specs.History.{DueStepsDone, PanelDemand3}
+use Rattle.history.specs.History.{repliesIn, DueStepsDone, AllDueDone, PanelDemand3}
 
 -- ---- all due steps at once, and the single steps
 
@@ -81,19 +84,31 @@ answers-refusals r (c ∷ cs) =
 
 -- ---- due steps
 
--- the step that is due
-abbrev dueOn : Replica → Call
-dueOn r = due (r .book .execution)
-
 -- the answers of due steps that are all accepted
-due-answers : (k : ℕ) (r : Replica) → ((j : ℕ) → j < k → refusal (settleDown j r .book) (dueOn (settleDown j r)) ≡ refused.accepted)
+due-answers : (k : ℕ) (r : Replica) → ((j : ℕ) → j < k → refusal (settleDown j r .book) (dueCall (settleDown j r)) ≡ refused.accepted)
     → refusalsIn (answersTo r (dueCalls k (r .book))) ≡ replicate k refused.accepted
 unfolding dueCalls settleDown answersTo
 due-answers zero r taken = refl
 due-answers (suc k) r taken =
-    let first = answer-refusal r (dueOn r) ∙ taken 0 (omega arith) in
-    let others = due-answers k (step r (dueOn r)) (λ j h. taken (suc j) (omega arith)) in
+    let first = answer-refusal r (dueCall r) ∙ taken 0 (omega arith) in
+    let others = due-answers k (step r (dueCall r)) (λ j h. taken (suc j) (omega arith)) in
     ap (λ (l : List Call). refusalsIn (answersTo r l)) (due-calls k r) ∙ (λ i. first i ∷ others i)
+
+-- the replies of due steps are those in their answers
+due-replies : (k : ℕ) (r : Replica) → dueReplies k r ≡ repliesIn (answersTo r (dueCalls k (r .book)))
+unfolding dueReplies dueCalls answersTo
+due-replies zero r = refl
+due-replies (suc k) r =
+    ap (consIf (isAwaited first) (replyIn first)) (due-replies k (step r (dueCall r)))
+    ∙ kept (isAwaited first) (answersTo (step r (dueCall r)) (dueCalls k (step r (dueCall r) .book)))
+    ∙ ap (λ (l : List Call). repliesIn (answersTo r l)) (sym (due-calls k r))
+  where
+    first : Answer
+    first = answer r (dueCall r)
+
+    kept : (b : Bool) (others : List Answer) → consIf b (replyIn first) (repliesIn others) ≡ map replyIn (consIf b first (keep isAwaited others))
+    kept true others = refl
+    kept false others = refl
 
 pub registers-model : (q : State) → Inv q → q .registers ≡ registers (model q .book .execution)
 unfolding model
@@ -123,7 +138,7 @@ module _ {panels own : ℕ} {opened : Opened} {calls : List Call} {answers : Lis
   demand = demand-3 panels own calls
 
   due-taken : (j : ℕ) → j < owedShown (model q)
-      → refusal (settleDown j (model q) .book) (dueOn (settleDown j (model q))) ≡ refused.accepted
+      → refusal (settleDown j (model q) .book) (dueCall (settleDown j (model q))) ≡ refused.accepted
   due-taken = rw panel-replica (demand .due-accepted)
 
   due-idle : (k : ℕ) → k ≤ owedShown (model q) → isIdle (settleDown k (model q) .book .execution) ≡ eqb k (owedShown (model q))
@@ -132,17 +147,34 @@ module _ {panels own : ℕ} {opened : Opened} {calls : List Call} {answers : Lis
   due-replayed : registers (settleDown (owedShown (model q)) (model q) .book .execution) ≡ replay (operations (order (model q .book .plan)))
   due-replayed = rw panel-replica (demand .replayed)
 
+  due-done : (k : ℕ) (last : State) → k ≤ owedShown (model q) → Inv last → model last ≡ settleDown k (model q)
+      → DueStepsDone q k (answersTo (model q) (dueCalls k (model q .book))) last
+  due-done k last few inv end = record {
+    accepted = due-answers k (model q) (λ j h. due-taken j (omega arith));
+    idle-exactly = ap (λ (r : Replica). isIdle (r .book .execution)) end ∙ due-idle k few;
+    replayed =
+        λ all. registers-model last inv
+        ∙ ap (λ (r : Replica). registers (r .book .execution)) (end ∙ ap (λ (n : ℕ). settleDown n (model q)) all)
+        ∙ due-replayed;
+  }
+
   due-steps : (k : ℕ) (more : List Answer) (last : State) → k ≤ owedShown (model q) → Leads q (dueCalls k (model q .book)) more last
       → DueStepsDone q k more last
   due-steps k more last few steps =
-      let end = leads-model panel-inv steps ∙ run-due k (model q) in
+      rw (leads-answers panel-inv steps)
+      (due-done k last few (leads-inv panel-inv steps) (leads-model panel-inv steps ∙ run-due k (model q)))
+
+  due-at-once : (r : Ran) → RunDue q r → AllDueDone q r
+  due-at-once r ran =
+      let replied = due-replies (stepsOwed q) (model q) in
       record {
-        accepted = ap refusalsIn (leads-answers panel-inv steps) ∙ due-answers k (model q) (λ j h. due-taken j (omega arith));
-        idle-exactly = ap (λ (r : Replica). isIdle (r .book .execution)) end ∙ due-idle k few;
-        replayed =
-            λ all. registers-model last (leads-inv panel-inv steps)
-            ∙ ap (λ (r : Replica). registers (r .book .execution)) (end ∙ ap (λ (n : ℕ). settleDown n (model q)) all)
-            ∙ due-replayed;
+        steps = due-done (stepsOwed q) (r .state) (omega arith) (ran .invariant) (ran .state);
+        undos = omega (arith, ap undosShown (ran .state), undos-done (model q), ran .undos);
+        executions = omega (arith, ap executionsShown (ran .state), executions-done (model q), ran .executions);
+        count = ran .count ∙ ap length replied;
+        replies =
+            ran .replies ∙ ap (λ (n : ℕ). repliesOwed q ++ replicate (mostReplies - n) noReply) (sym (ran .count))
+            ∙ ap (λ (l : List DueReply). l ++ replicate (mostReplies - r .count) noReply) replied;
       }
 
   pub panel-demand-3 : PanelDemand3 panels own calls answers q
@@ -160,6 +192,7 @@ module _ {panels own : ℕ} {opened : Opened} {calls : List Call} {answers : Lis
     executions-shown = rw panel-replica (demand .executions-shown);
     owed-shown = ap (λ (b : Book). owed (b .execution)) book;
     settles = rw (← book) due-steps;
+    settles-at-once = due-at-once;
     clock-order = rw (← run-book (fresh panels own) calls) (demand .clock-order);
     undos-few = rw panel-replica (demand .undos-few);
     executions-few = rw panel-replica (demand .executions-few);

@@ -9,7 +9,7 @@ use Rattle.sets.specs.declared.Context.{Context}
 use Rattle.request.specs.Refusal as refused
 use Rattle.creek.specs.declared.Answer.{Answer}
 use Rattle.creek.specs.Plan.{Plan}
-use Rattle.creek.specs.Book.{Call, invoke, deliver, commit, undo, execute, Book, refusal, isAccepted}
+use Rattle.creek.specs.Book.{Call, invoke, deliver, commit, undo, execute, Book, isAccepted}
 use Rattle.creek.specs.Replies.{acceptedAnswer}
 use Rattle.creek.specs.Calls.{Replica, fresh, step, answer}
 use Rattle.creek.specs.Sound.{Sound}

@@ -2,7 +2,7 @@
 -- contract; what the shift book says of the same calls; and demand 3 as a statement about the panel's last state. Every list of calls
 -- keeps it: `panel-demand-3` in `proofs/History`.
 use Rattle.counters.specs.Counted.{mostSteps}
-use Prim.Native.Nat.{ℕ, _+_, _≤_}
+use Prim.Native.Nat.{ℕ, _+_, _-_, _≤_}
 use mathlib.Core.Path.{_≡_}
 use mathlib.Core.Bool.{Bool}
 use mathlib.Core.List.{List, [], _∷_, _++_, map}
@@ -11,7 +11,7 @@ use lib.Dec.{eqb}
 use Rattle.request.specs.Order.{before}
 use Rattle.request.specs.Refusal as refused
 use Rattle.registers.specs.Replay.{replay}
-use Rattle.lists.specs.Lists.{Ordered}
+use Rattle.lists.specs.Lists.{keep, Ordered}
 use Rattle.creek.specs.declared.Answer.{Answer}
 use Rattle.creek.specs.Execution.{board, operations, owed, isIdle}
 use Rattle.creek.specs.Book.{Call, Book, refusal, noted, notedAll}
@@ -22,8 +22,9 @@ use Rattle.creek.specs.Demand.{mostUndos}
 use Rattle.replica.specs.declared.State.{State}
 use Rattle.replica.specs.declared.Called.{Called}
 use Rattle.replica.specs.declared.Ran.{Ran}
+use Rattle.replica.specs.declared.DueReply.{DueReply}
 use Rattle.replica.specs.Model.{model, Inv, Kept}
-use Rattle.replica.specs.Due.{stepsOwed, RunDue}
+use Rattle.replica.specs.Due.{noReply, replyIn, isAwaited, mostReplies, stepsOwed, RunDue}
 
 -- ---- the shift book, fed the calls alone
 
@@ -65,6 +66,10 @@ pub data Leads : State → List Call → List Answer → State → Type 0 where
 abbrev pub refusalsIn : List Answer → List ℕ
 refusalsIn answers = map (λ (a : Answer). a .refusal) answers
 
+-- number, response and mark of each answer that has a mark
+abbrev pub repliesIn : List Answer → List DueReply
+repliesIn answers = map replyIn (keep isAwaited answers)
+
 -- ---- demand 3 of the panel
 
 -- what holds of the panel `last` to which k steps, each due then, led from q, with those answers
@@ -76,6 +81,17 @@ pub record DueStepsDone (q : State) (k : ℕ) (answers : List Answer) (last : St
   -- its registers then: one replay of the settled requests in their order and then the unsettled ones, which are in clock order
   pub replayed : k ≡ owedShown (model q)
       → last .registers ≡ replay (operations (model q .book .plan .committed ++ model q .book .plan .tentative))
+
+-- what holds of what all due steps at once returned on q
+pub record AllDueDone (q : State) (r : Ran) : Type 0 where
+  -- the same as of the single steps, as many as the panel reported owed
+  pub steps : DueStepsDone q (owedShown (model q)) (answersDue q) (r .state)
+  -- the counters shown have grown by exactly the undos and carry-outs that it says it did
+  pub undos : undosShown (model (r .state)) ≡ undosShown (model q) + r .undos
+  pub executions : executionsShown (model (r .state)) ≡ executionsShown (model q) + r .executions
+  -- the replies that it gives are those of the single steps, with zeros behind them
+  pub count : r .count ≡ length (repliesIn (answersDue q))
+  pub replies : r .replies ≡ repliesIn (answersDue q) ++ replicate (mostReplies - r .count) noReply
 
 module _ (panels own : ℕ) (calls : List Call) where
   -- the shift book after those calls
@@ -109,9 +125,11 @@ module _ (panels own : ℕ) (calls : List Call) where
     pub executions-shown : executionsShown (model q) ≡ acceptedCalls isExecute
     -- what it reports owed is what the book owes
     pub owed-shown : owedShown (model q) ≡ owed (shiftBook .execution)
-    -- if from there only the step that is due is called, singly or all at once
+    -- if from there only the step that is due is called
     pub settles : (k : ℕ) (more : List Answer) (last : State) → k ≤ owedShown (model q) → Leads q (dueCalls k shiftBook) more last
         → DueStepsDone q k more last
+    -- if from there all due steps are called at once
+    pub settles-at-once : (r : Ran) → RunDue q r → AllDueDone q r
     -- the unsettled list is in clock order
     pub clock-order : Ordered before (shiftBook .plan .tentative)
     -- neither step counter is ever above 262,656
