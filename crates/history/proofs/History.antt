@@ -106,7 +106,8 @@ due-replies (suc k) r =
     first : Answer
     first = answer r (dueCall r)
 
-    kept : (b : Bool) (others : List Answer) → consIf b (replyIn first) (repliesIn others) ≡ map replyIn (consIf b first (keep isAwaited others))
+    kept : (b : Bool) (others : List Answer)
+        → consIf b (replyIn first) (repliesIn others) ≡ map replyIn (consIf b first (keep isAwaited others))
     kept true others = refl
     kept false others = refl
 

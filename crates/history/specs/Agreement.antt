@@ -48,8 +48,8 @@ pub record PanelGrows {panels own : ℕ} (p : PanelHistory panels own) : Type 0 
 
 -- each stable reply that it gave is that request's response in one replay of the settled list, then and whatever is called on it later
 pub record PanelStableReplies {panels own : ℕ} (p : PanelHistory panels own) : Type 0 where
-  -- of a carry-out or a settlement: every place in the list of answers that has mark 3, where all due steps at once stand for the answers of
-  -- the single steps
+  -- of a carry-out or a settlement: every place in the list of answers that has mark 3, where all due steps at once stand for the answers
+  -- of the single steps
   pub single : (place : ℕ) → answerAt (p .answers) place .mark ≡ stableMark
       → (further : List Call) (more : List Answer) (later : State) → Leads (p .last) further more later
       → answerAt (p .answers) place .response

@@ -55,8 +55,8 @@ told by [] answers = []
 told by (c ∷ cs) [] = []
 told by (c ∷ cs) (v ∷ vs) = cond (eqb (v .refusal) refused.accepted) (by c v) [] ++ told by cs vs
 
--- what the shift book accepts among the calls is what the panel told; all due steps at once stand for undos and carry-outs, which tell of no
--- request and no settlement
+-- what the shift book accepts among the calls is what the panel told; all due steps at once stand for undos and carry-outs, which tell of
+-- no request and no settlement
 pub record PanelTells {panels own : ℕ} (p : PanelHistory panels own) : Type 0 where
   pub requests : requestsIn (historyOf p) ≡ told requestTold (p .calls) (p .answers)
   pub settlements : settlementsIn (historyOf p) ≡ told settlementTold (p .calls) (p .answers)

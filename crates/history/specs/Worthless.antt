@@ -1,10 +1,11 @@
 -- The worthless panels of document 01's condition (c), over the records that the calls' contracts cite: what a panel is to its callers,
--- when it keeps its contracts, the five ways to be worthless, and the statement that each of them breaks a contract (`no-worthless-panel`
--- in `proofs/Worthless`).
+-- when it keeps its contracts, the five ways to be worthless and three more of all due steps at once, and the statement that each of them
+-- breaks a contract (`no-worthless-panel` in `proofs/Worthless`).
 use Prim.{Unit}
-use Prim.Native.Nat.{ℕ, _≤_}
+use Prim.Native.Nat.{ℕ, _+_, _≤_, _<_}
 use mathlib.Core.Path.{_≡_}
-use mathlib.Core.List.{List, [], _∷_}
+use mathlib.Core.Bool.{Bool}
+use mathlib.Core.List.{List, [], _∷_, _++_, map}
 use lib.ListN.{getD}
 use Rattle.request.specs.Operations.{lastRegister}
 use Rattle.request.specs.Refusal as refused
@@ -18,15 +19,33 @@ use Rattle.creek.specs.Examples.{setTo, make}
 use Rattle.replica.specs.declared.State.{State}
 use Rattle.replica.specs.declared.Opened.{Opened}
 use Rattle.replica.specs.declared.Called.{Called}
+use Rattle.replica.specs.declared.Ran.{Ran}
 use Rattle.replica.specs.declared.RegisterValue.{RegisterValue}
 use Rattle.replica.specs.Model.{model, Inv, Fresh, Kept}
+use Rattle.replica.specs.Due.{noReply, RunDue}
 use Rattle.replica.specs.Shown.{RegisterShown}
-use Rattle.history.specs.History.{acceptedCalls}
+use Rattle.history.specs.History.{stepsDue, answersDue, acceptedCalls}
 
--- a panel as its callers see it: any functions for fresh, for the five calls and for the calls that show a register and the step counters
+-- what may be called on a panel: one of the five calls, or all due steps at once
+pub data PanelCall : Type 0 where
+  single : Call → PanelCall
+  runDue : PanelCall
+
+-- the calls of `creek` that it stands for on p: all due steps at once for the single steps
+abbrev pub standsFor : State → PanelCall → List Call
+standsFor p (single c) = c ∷ []
+standsFor p runDue = stepsDue p
+
+-- those calls, each a single one
+abbrev pub singly : List Call → List PanelCall
+singly calls = map single calls
+
+-- a panel as its callers see it: any functions for fresh, for the five calls, for all due steps at once, and for the calls that show a
+-- register and the step counters
 pub record Panel : Type 0 where
   pub fresh : ℕ → ℕ → Opened
   pub call : State → Call → Called
+  pub run-due : State → Ran
   pub register : State → ℕ → RegisterValue
   pub undos : State → ℕ
   pub executions : State → ℕ
@@ -34,27 +53,47 @@ pub record Panel : Type 0 where
 -- ---- a panel that keeps its contracts
 
 module _ (panel : Panel) where
+  -- the state that a call returns
+  abbrev pub next : State → PanelCall → State
+  next p (single c) = panel .call p c .state
+  next p runDue = panel .run-due p .state
+
   -- the state after those calls, each on what the last one returned
-  abbrev pub after : State → List Call → State
+  abbrev pub after : State → List PanelCall → State
   after p [] = p
-  after p (c ∷ cs) = after (panel .call p c .state) cs
+  after p (c ∷ cs) = after (next p c) cs
 
-  -- the answers to them
-  abbrev pub answersFrom : State → List Call → List Answer
+  -- the calls of `creek` that those calls stand for
+  abbrev pub standFor : State → List PanelCall → List Call
+  standFor p [] = []
+  standFor p (c ∷ cs) = standsFor p c ++ standFor (next p c) cs
+
+  -- the answer to a call, and for all due steps at once those of the single steps
+  abbrev pub answerTo : State → PanelCall → List Answer
+  answerTo p (single c) = panel .call p c .answer ∷ []
+  answerTo p runDue = answersDue p
+
+  -- the answers to those calls
+  abbrev pub answersFrom : State → List PanelCall → List Answer
   answersFrom p [] = []
-  answersFrom p (c ∷ cs) = panel .call p c .answer ∷ answersFrom (panel .call p c .state) cs
+  answersFrom p (c ∷ cs) = answerTo p c ++ answersFrom (next p c) cs
 
-  -- each of those calls keeps its contract, which supposes the invariant
-  abbrev pub KeepsCalls : State → List Call → Type 0
+  -- the call keeps its contract, which supposes the invariant
+  abbrev pub KeepsCall : State → PanelCall → Type 0
+  KeepsCall p (single c) = Inv p → Kept p c (panel .call p c)
+  KeepsCall p runDue = Inv p → RunDue p (panel .run-due p)
+
+  -- each of those calls keeps its contract
+  abbrev pub KeepsCalls : State → List PanelCall → Type 0
   KeepsCalls p [] = Unit {0}
-  KeepsCalls p (c ∷ cs) = (Inv p → Kept p c (panel .call p c)) × KeepsCalls (panel .call p c .state) cs
+  KeepsCalls p (c ∷ cs) = KeepsCall p c × KeepsCalls (next p c) cs
 
   -- the state after those calls from what fresh returned
-  abbrev pub reached : ℕ → ℕ → List Call → State
+  abbrev pub reached : ℕ → ℕ → List PanelCall → State
   reached panels own calls = after (panel .fresh panels own .state) calls
 
   -- fresh, those calls and the showing calls after them keep their contracts
-  pub record Keeps (panels own : ℕ) (calls : List Call) : Type 0 where
+  pub record Keeps (panels own : ℕ) (calls : List PanelCall) : Type 0 where
     pub fresh : Fresh panels own (panel .fresh panels own)
     pub kept : KeepsCalls (panel .fresh panels own .state) calls
     pub register : (k : ℕ) → k ≤ lastRegister → let q = reached panels own calls in Inv q → RegisterShown q k (panel .register q k)
@@ -63,9 +102,9 @@ module _ (panel : Panel) where
 
   -- ---- five ways to be worthless
 
-  -- every state that a caller can get from fresh and the calls has the property
+  -- every state that a caller can get from fresh and the five calls has the property
   abbrev pub Everywhere : (State → Type 0) → Type 0
-  Everywhere P = (panels own : ℕ) (calls : List Call) → P (reached panels own calls)
+  Everywhere P = (panels own : ℕ) (calls : List Call) → P (reached panels own (singly calls))
 
   abbrev pub Accepts : State → Call → Type 0
   Accepts p c = panel .call p c .answer .refusal ≡ refused.accepted
@@ -87,11 +126,36 @@ module _ (panel : Panel) where
   ExecutesAll = Everywhere (λ p. (k : ℕ) → k ≤ lastRegister → executionsShown (model p) ≡ 0 → Accepts p execute
       → panel .register (panel .call p execute .state) k .value ≡ getD (replay (operations (model p .book .execution .todo))) k 0)
 
-  -- it invents counters: after those calls the two that it shows are not both the counts of accepted undos and carry-outs among them
-  abbrev pub InventsCounters : ℕ → ℕ → List Call → Type 0
+  -- how many calls of a kind are accepted among those that the calls stand for
+  abbrev pub acceptedOf : ℕ → ℕ → List PanelCall → (Call → Bool) → ℕ
+  acceptedOf panels own calls kind = acceptedCalls panels own (standFor (panel .fresh panels own .state) calls) kind
+
+  -- it invents counters: after those calls, all due steps at once among them, the two that it shows are not both the counts of accepted
+  -- undos and carry-outs among the calls that they stand for
+  abbrev pub InventsCounters : ℕ → ℕ → List PanelCall → Type 0
   InventsCounters panels own calls =
-      (panel .undos (reached panels own calls) ≡ acceptedCalls panels own calls isUndo)
-      × (panel .executions (reached panels own calls) ≡ acceptedCalls panels own calls isExecute)
+      (panel .undos (reached panels own calls) ≡ acceptedOf panels own calls isUndo)
+      × (panel .executions (reached panels own calls) ≡ acceptedOf panels own calls isExecute)
+      → ⊥
+
+  -- ---- three more, of all due steps at once
+
+  -- all due steps at once do nothing: they leave the state alone
+  abbrev pub LeavesDue : Type 0
+  LeavesDue = Everywhere (λ p. panel .run-due p .state ≡ p)
+
+  -- all due steps at once give a fixed reply: each reply among theirs has this response
+  abbrev pub RepliesDueAlways : ℕ → Type 0
+  RepliesDueAlways response = Everywhere (λ p. (place : ℕ) → place < panel .run-due p .count
+      → getD (panel .run-due p .replies) place noReply .response ≡ response)
+
+  -- all due steps at once invent their counts: after those calls they return two that are not both what the counters shown grow by
+  abbrev pub InventsDueCounts : ℕ → ℕ → List PanelCall → Type 0
+  InventsDueCounts panels own calls =
+      let p = reached panels own calls in
+      let q = reached panels own (calls ++ runDue ∷ []) in
+      (panel .undos q ≡ panel .undos p + panel .run-due p .undos)
+      × (panel .executions q ≡ panel .executions p + panel .run-due p .executions)
       → ⊥
 
 -- ---- each breaks a contract
@@ -110,11 +174,20 @@ setting value = make 1 (setTo 0 value)
 abbrev pub twoSets : List Call → List Call
 twoSets more = setting firstValue ∷ setting secondValue ∷ more
 
--- a panel that is worthless in one of these ways breaks a contract: each of the first four within the calls named here, in a shop of one
--- panel; one that invents counters wherever it shows an invented one
+-- two are made, and then all due steps are called at once
+abbrev pub twoSetsDue : List PanelCall
+twoSetsDue = singly (twoSets []) ++ runDue ∷ []
+
+-- a panel that is worthless in one of these ways breaks a contract: one that invents counters wherever it shows or returns an invented
+-- one, each of the others within the calls named here, in a shop of one panel
 pub record NotWorthless (panel : Panel) : Type 0 where
-  pub refuses-each : RefusesEach panel → Keeps panel 1 0 (twoSets []) → ⊥
-  pub replies-always : (response : ℕ) → RepliesAlways panel response → Keeps panel 1 0 (twoSets (execute ∷ execute ∷ [])) → ⊥
-  pub leaves-alone : LeavesAlone panel → Keeps panel 1 0 (twoSets []) → ⊥
-  pub executes-all : ExecutesAll panel → Keeps panel 1 0 (twoSets (execute ∷ [])) → ⊥
-  pub invents-counters : (panels own : ℕ) (calls : List Call) → InventsCounters panel panels own calls → Keeps panel panels own calls → ⊥
+  pub refuses-each : RefusesEach panel → Keeps panel 1 0 (singly (twoSets [])) → ⊥
+  pub replies-always : (response : ℕ) → RepliesAlways panel response → Keeps panel 1 0 (singly (twoSets (execute ∷ execute ∷ []))) → ⊥
+  pub leaves-alone : LeavesAlone panel → Keeps panel 1 0 (singly (twoSets [])) → ⊥
+  pub executes-all : ExecutesAll panel → Keeps panel 1 0 (singly (twoSets (execute ∷ []))) → ⊥
+  pub invents-counters : (panels own : ℕ) (calls : List PanelCall) → InventsCounters panel panels own calls
+      → Keeps panel panels own calls → ⊥
+  pub leaves-due : LeavesDue panel → Keeps panel 1 0 twoSetsDue → ⊥
+  pub replies-due-always : (response : ℕ) → RepliesDueAlways panel response → Keeps panel 1 0 twoSetsDue → ⊥
+  pub invents-due-counts : (panels own : ℕ) (calls : List PanelCall) → InventsDueCounts panel panels own calls
+      → Keeps panel panels own calls → Keeps panel panels own (calls ++ runDue ∷ []) → ⊥
