@@ -1,4 +1,4 @@
--- One more step counted, and how far the counting goes.
+-- Further steps counted, and how far the counting goes.
 use Prim.Native.Nat.{ℕ, _+_}
 use Rattle.counters.specs.declared.Counters.{Counters}
 
@@ -6,10 +6,10 @@ use Rattle.counters.specs.declared.Counters.{Counters}
 abbrev pub mostSteps : ℕ
 mostSteps = 262656
 
--- the counters after one more undo
-abbrev pub undoCounted : Counters → Counters
-undoCounted c = record { undos = c .undos + 1; executions = c .executions }
+-- the counters after so many further undos
+abbrev pub undosCounted : Counters → ℕ → Counters
+undosCounted c steps = record { undos = c .undos + steps; executions = c .executions }
 
--- the counters after one more execution (a carry-out)
-abbrev pub executionCounted : Counters → Counters
-executionCounted c = record { undos = c .undos; executions = c .executions + 1 }
+-- the counters after so many further executions (carry-outs)
+abbrev pub executionsCounted : Counters → ℕ → Counters
+executionsCounted c steps = record { undos = c .undos; executions = c .executions + steps }

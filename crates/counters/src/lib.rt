@@ -1,10 +1,11 @@
-// The step counters: one small record of the panel's own, which the counting in each step is lent and updates there.
+// The step counters: one small record of the panel's own, which the counting of steps is lent and updates there.
 //
-// `count_undo` and `count_execution` are lent the counters. `undo_counted` and `execution_counted` lend them their own copy and hand it
-// back: the steps call these. Whoever counts shows that the counter is below `mostSteps` of `specs/`, so no addition overflows.
+// `count_undos` and `count_executions` are lent the counters and told how many steps were done. `undos_counted` and
+// `executions_counted` lend them their own copy and hand it back. Whoever counts shows that the counter stays within `mostSteps` of
+// `specs/`, so no addition overflows.
 ghost use mathlib.Core.Path.{_≡_};
-ghost use Prim.Native.Nat.{_<_};
-ghost use Rattle.counters.specs.Counted.{mostSteps, undoCounted, executionCounted};
+ghost use Prim.Native.Nat.{_+_, _≤_};
+ghost use Rattle.counters.specs.Counted.{mostSteps, undosCounted, executionsCounted};
 
 // Undos done and executions (carry-outs) done.
 pub struct Counters {
@@ -12,38 +13,38 @@ pub struct Counters {
     pub executions: u32,
 }
 
-// Counts an undo in the lent counters.
-pub fn count_undo(c: &mut Counters)
-    requires { ⌜ now c .undos < mostSteps ⌝ }
-    ensures { λ _. ⌜ now (c .exit) ≡ undoCounted (now (c .entry)) ⌝ }
+// Counts so many undos in the lent counters.
+pub fn count_undos(c: &mut Counters, steps: u32)
+    requires { ⌜ now c .undos + steps ≤ mostSteps ⌝ }
+    ensures { λ _. ⌜ now (c .exit) ≡ undosCounted (now (c .entry)) steps ⌝ }
 {
-    c.undos = c.undos + 1;
+    c.undos = c.undos + steps;
 }
 
-// Counts an execution in the lent counters.
-pub fn count_execution(c: &mut Counters)
-    requires { ⌜ now c .executions < mostSteps ⌝ }
-    ensures { λ _. ⌜ now (c .exit) ≡ executionCounted (now (c .entry)) ⌝ }
+// Counts so many executions in the lent counters.
+pub fn count_executions(c: &mut Counters, steps: u32)
+    requires { ⌜ now c .executions + steps ≤ mostSteps ⌝ }
+    ensures { λ _. ⌜ now (c .exit) ≡ executionsCounted (now (c .entry)) steps ⌝ }
 {
-    c.executions = c.executions + 1;
+    c.executions = c.executions + steps;
 }
 
-// The counters with one more undo.
-pub fn undo_counted(c: Counters) -> Counters
-    requires { ⌜ c .undos < mostSteps ⌝ }
-    ensures { λ d. ⌜ d ≡ undoCounted c ⌝ }
+// The counters with so many more undos.
+pub fn undos_counted(c: Counters, steps: u32) -> Counters
+    requires { ⌜ c .undos + steps ≤ mostSteps ⌝ }
+    ensures { λ d. ⌜ d ≡ undosCounted c steps ⌝ }
 {
     let mut d = c;
-    count_undo(&mut d);
+    count_undos(&mut d, steps);
     d
 }
 
-// The counters with one more execution.
-pub fn execution_counted(c: Counters) -> Counters
-    requires { ⌜ c .executions < mostSteps ⌝ }
-    ensures { λ d. ⌜ d ≡ executionCounted c ⌝ }
+// The counters with so many more executions.
+pub fn executions_counted(c: Counters, steps: u32) -> Counters
+    requires { ⌜ c .executions + steps ≤ mostSteps ⌝ }
+    ensures { λ d. ⌜ d ≡ executionsCounted c steps ⌝ }
 {
     let mut d = c;
-    count_execution(&mut d);
+    count_executions(&mut d, steps);
     d
 }

@@ -147,22 +147,6 @@ module _ (r : Replica) where
   pub executions-done : executionsShown (settleDown (owedShown r) r) ≡ executionsShown r + length (r .book .execution .todo)
   executions-done = omega (arith, none-left, totals .executions)
 
--- ---- undos done never fall
-
-pub step-undos : (r : Replica) (c : Call) → undosShown r ≤ undosShown (step r c)
-unfolding step accept
-step-undos r c = go (isAccepted (r .book) c)
-  where
-    go : (v : Bool) → undosShown r ≤ undosShown (cond v (accept r c) r)
-    go true = omega arith
-    go false = omega arith
-
-pub later-undos : (k : ℕ) (r : Replica) → undosShown r ≤ undosShown (settleDown k r)
-unfolding settleDown
-later-undos zero r = omega arith
-later-undos (suc k) r =
-    omega (arith, step-undos r (due (r .book .execution)), later-undos k (step r (due (r .book .execution))))
-
 -- ---- so many due steps as a list of calls
 
 pub due-calls : (k : ℕ) (r : Replica)

@@ -9,11 +9,10 @@ use Rattle.numbers.specs.Numbers.{noNumber}
 use Rattle.request.specs.Refusal as refused
 use Rattle.creek.specs.Replies.{noMark, noRequest}
 use Rattle.creek.specs.Sound.{mostRequests}
-use Rattle.replica.specs.declared.State.{State}
-use Rattle.replica.specs.declared.Ran.{Ran}
-use Rattle.replica.specs.declared.Called.{Called}
+use Rattle.replica.specs.State.{State, Called}
+use Rattle.due.specs.Due.{Ran}
 use Rattle.replica.specs.Model.{Inv, model, Kept}
-use Rattle.replica.specs.Due.{RunDue}
+use Rattle.due.specs.Due.{RunDue}
 use Rattle.replica.proofs.ShowingLaws.{owed-are}
 use Rattle.wire.specs.declared.Message.{Message}
 use Rattle.wire.specs.Message.{noMessage, bare}

@@ -2,6 +2,7 @@
 pub mod SizeLaws
 pub mod MessageLaws
 pub mod DueLaws
+pub mod CountingLaws
 pub mod Expanded
 pub mod Running
 pub mod CallLaws

@@ -8,8 +8,9 @@ use lib.ListN.{length}
 use lib.Seq.{sets}
 use borrow.Author.Tests.{lt-ltb, le-ltb}
 use Rattle.creek.specs.Calls.{Replica}
-use Rattle.replica.specs.declared.State.{State}
-use Rattle.replica.specs.declared.Opened.{Opened}
+use Rattle.counters.specs.declared.Counters.{Counters}
+use Rattle.replica.specs.declared.Core.{Core}
+use Rattle.replica.specs.State.{State, Opened}
 use Rattle.replica.specs.Model.{model, Fresh}
 use Rattle.driver.specs.Encoding.{panelsOf, ownOf, callsAt, callCount, entriesOf, answerSize, answersBytes}
 use Rattle.driver.specs.Encoding.{runEntries, freshOf, tight, entriesRun, RanAll, Ran}
@@ -23,10 +24,10 @@ module _ (s out : List ℕ) (panels own : ℕ) (o : Opened) (is-panels : panels 
     opened-of = rw (is-panels, is-own) at opened
 
     -- without room
-    pub ran-nothing : length out / answerSize < count
-        → Ran s out out (record { room = false; refusal = o .refusal; ran = 0; state = o .state })
+    pub ran-nothing : length out / answerSize < count → (core : Core) (counters : Counters)
+        → Ran s out out (record { room = false; refusal = o .refusal; ran = 0; core = core; counters = counters }) (o .state)
     unfolding entriesRun runEntries answersBytes
-    ran-nothing h =
+    ran-nothing h core counters =
         let e : tight s out ≡ true = lt-ltb (length out / answerSize) (callCount s) (omega (arith, counted)) in
         let last : model (o .state) ≡ runEntries (freshOf s) (entriesRun s out) = rw e (opened-of .state) in
         record {
@@ -41,9 +42,10 @@ module _ (s out : List ℕ) (panels own : ℕ) (o : Opened) (is-panels : panels 
 
     -- with room
     pub ran-all : count ≤ length out / answerSize → (out′ : List ℕ) (q : State) → RanAll (o .state) s out out′ q
-        → Ran s out out′ (record { room = true; refusal = o .refusal; ran = count; state = q })
+        → (core : Core) (counters : Counters)
+        → Ran s out out′ (record { room = true; refusal = o .refusal; ran = count; core = core; counters = counters }) q
     unfolding entriesRun entriesOf
-    ran-all h out′ q all =
+    ran-all h out′ q all core counters =
         let e : tight s out ≡ false = le-ltb (length out / answerSize) (callCount s) (omega (arith, counted)) in
         let last : model q ≡ runEntries (freshOf s) (entriesRun s out) =
         rw e (all .state ∙ ap (λ (r : Replica). runEntries r (entriesOf s)) (opened-of .state)) in

@@ -9,8 +9,7 @@ use Rattle.text.specs.Placed.{Room, Written}
 use Rattle.text.proofs.PlacedLaws.{Left, left-start, left-room, left-step, left-end}
 use Rattle.creek.specs.declared.Answer.{Answer}
 use Rattle.creek.specs.Calls.{Replica}
-use Rattle.replica.specs.declared.State.{State}
-use Rattle.replica.specs.declared.Called.{Called}
+use Rattle.replica.specs.State.{State, Called}
 use Rattle.replica.specs.Model.{Inv, model}
 use Rattle.driver.specs.Encoding.{callsAt, callSize, Entry, entryAt, entriesFrom, callCount, entriesOf}
 use Rattle.driver.specs.Encoding.{after, answerTo, runEntries, Done, answerBytes, answersBytes, RanAll}

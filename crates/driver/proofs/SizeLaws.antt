@@ -11,6 +11,7 @@ use Rattle.text.specs.Placed.{Room}
 use Rattle.request.specs.declared.Request.{Request}
 use Rattle.creek.specs.declared.Answer.{Answer}
 use Rattle.creek.specs.Calls.{Replica}
+use Rattle.replica.specs.State.{State}
 use Rattle.wire.specs.Integers.{integerBytes}
 use Rattle.wire.specs.Message.{request, bytesOf, weakWithContext}
 use Rattle.driver.specs.declared.Ran.{Ran as RanOf}
@@ -53,7 +54,7 @@ unfolding entriesOf
 answers-room r s out h = record { fits = omega (arith, length-answers r (entriesOf s), length-calls s callsAt (callCount s)) }
 
 -- the answers of a run lie in the lent bytes
-pub ran-inside : {s out out′ : List ℕ} {r : RanOf} → Ran s out out′ r → answerSize * r .ran ≤ length out
+pub ran-inside : {s out out′ : List ℕ} {r : RanOf} {q : State} → Ran s out out′ r q → answerSize * r .ran ≤ length out
 unfolding entriesRun entriesOf
 ran-inside {s} {out} h = omega (arith, h .ran, go (tight s out) refl)
   where

@@ -15,8 +15,7 @@ use Rattle.creek.specs.Execution.{owed}
 use Rattle.creek.specs.Replies.{noMark, reply}
 use Rattle.creek.specs.Calls.{Replica, fresh, freshRefusal, step, answer}
 use Rattle.creek.specs.History.{run, settleDown, dueCalls}
-use Rattle.replica.specs.declared.State.{State}
-use Rattle.replica.specs.declared.Called.{Called}
+use Rattle.replica.specs.State.{State, Called}
 use Rattle.replica.specs.Model.{Inv, model}
 use Rattle.wire.specs.declared.Message.{Message}
 use Rattle.wire.specs.Integers.{integerBytes}
@@ -76,13 +75,16 @@ invocationOf x = record { operation = x .operation; strong = x .strong; clock = 
 unfoldable pub callOf : Message → Call
 callOf m = cond {A = Call} (m .settles) (commit (m .request .number)) (deliver (m .request))
 
+-- the call of a message behind that tag: make, or the bus message's own
+abbrev pub messageCall : ℕ → Message → Call
+messageCall tag m = cond {A = Call} (eqb tag invokeTag) (invoke (invocationOf (m .request))) (callOf m)
+
 -- the call at a place
 unfoldable pub callAt : List ℕ → ℕ → Call
 callAt s at =
     cond {A = Call} (eqb (getD s at 0) undoTag) undo
     (cond {A = Call} (eqb (getD s at 0) executeTag) execute
-    (cond {A = Call} (eqb (getD s at 0) invokeTag) (invoke (invocationOf (messageAt s (at + 1) .request)))
-    (callOf (messageAt s (at + 1)))))
+    (messageCall (getD s at 0) (messageAt s (at + 1))))
 
 -- what a place asks for: one call, or all due steps
 pub data Entry : Type 0 where
@@ -198,17 +200,17 @@ pub record RanAll (p : State) (s out out′ : List ℕ) (q : State) : Type 0 whe
   pub answers : out′ ≡ sets out 0 (answersBytes (model p) (entriesOf s))
   pub invariant : Inv q
 
--- what a run of the bytes s does where the lent bytes were out and are out′
-pub record Ran (s out out′ : List ℕ) (r : RanOf) : Type 0 where
+-- what a run of the bytes s does where the lent bytes were out and are out′, and q is the panel's memory then
+pub record Ran (s out out′ : List ℕ) (r : RanOf) (q : State) : Type 0 where
   pub room : r .room ≡ not (tight s out)
   pub refusal : r .refusal ≡ freshRefusal (panelsOf s) (ownOf s)
   pub ran : r .ran ≡ length (entriesRun s out)
   -- the state is the run of the entries, which is `creek`'s run of the calls that they stand for
-  pub state : model (r .state) ≡ runEntries (freshOf s) (entriesRun s out)
-  pub calls : model (r .state) ≡ run (freshOf s) (callsOf (freshOf s) (entriesRun s out))
+  pub state : model q ≡ runEntries (freshOf s) (entriesRun s out)
+  pub calls : model q ≡ run (freshOf s) (callsOf (freshOf s) (entriesRun s out))
   -- the answers stand at the front, and every other byte is as it was
   pub answers : out′ ≡ sets out 0 (answersBytes (freshOf s) (entriesRun s out))
-  pub invariant : Inv (r .state)
+  pub invariant : Inv q
 
 -- what of it a caller in another language sees: how many entries were run, and the answers
 pub record Answered (s out out′ : List ℕ) (n : ℕ) : Type 0 where

@@ -1,69 +1,190 @@
 // Runs an encoded list of calls from fresh: bytes in, answers out in lent bytes. The encoding is in `docs/CALLS.md`.
 //
-// `calls` reads and carries out one call, `answers` puts one answer; `Encoding` of `specs/` has the encoding and what a run does.
+// The panel's arrays are lent and hold its memory after the calls. `calls` reads and carries out one call, `counting` does the steps and
+// counts them, `answers` puts one answer; `Encoding` of `specs/` has the encoding and what a run does, `Parts` what is asked and promised
+// over parts of a panel.
 pub mod answers;
 pub mod calls;
+pub mod counting;
 
+use counters::Counters;
+use creek::Answer;
 use numbers::PanelNo;
-use replica::State;
+use replica::Core;
 ghost use mathlib.Core.Path.{_≡_};
 ghost use Rattle.text.specs.Placed.{Room};
+ghost use Rattle.replica.specs.State.{packed};
 ghost use Rattle.replica.specs.Model.{Inv, model};
 ghost use Rattle.driver.specs.Encoding.{callCount, entriesOf, answersBytes, Ran as RanBytes, RanAll};
 
-// What a run returns: whether the lent bytes have room for the answers, the refusal of fresh, how many calls were run, and the state
-// after them.
+// What a run returns: whether the lent bytes have room for the answers, the refusal of fresh, how many calls were run, and the core and
+// the counters after them.
 pub struct Ran {
     pub room: bool,
     pub refusal: u8,
     pub ran: usize,
-    pub state: State,
+    pub core: Core,
+    pub counters: Counters,
 }
 
-// Runs the calls of `s` from fresh and puts their answers at the front of `out`; without room for all of them none is run.
-pub fn run(s: &[u8], out: &mut [u8]) -> Ran
-    ensures { λ r. ⌜ RanBytes (now (s .entry)) (now (out .entry)) (now (out .exit)) r ⌝ }
+// What one entry of the list leads to: the core and the counters after it, and its answer.
+pub struct EntryResult {
+    pub core: Core,
+    pub counters: Counters,
+    pub answer: Answer,
+}
+
+// What all entries lead to: the core and the counters after them.
+pub struct EntriesResult {
+    pub core: Core,
+    pub counters: Counters,
+}
+
+// Runs the calls of `s` from fresh, with the lent arrays as the panel's memory, and puts their answers at the front of `out`; without room
+// for all of them none is run.
+pub fn run(
+    s: &[u8],
+    out: &mut [u8],
+    held: &mut [u64; 8],
+    known: &mut [u64; 8],
+    awaiting: &mut [u64; 8],
+    clocks: &mut [u32; 512],
+    operations: &mut [u64; 512],
+    contexts: &mut [u64; 4096],
+    order: &mut [u16; 512],
+    stack: &mut [u16; 512],
+    registers: &mut [u32; 64],
+    saved: &mut [u64; 512],
+    responses: &mut [u32; 512],
+) -> Ran
+    ensures { λ r. ⌜ RanBytes (now (s .entry)) (now (out .entry)) (now (out .exit)) r
+        (packed (r .core) (r .counters) (now (held .exit)) (now (known .exit)) (now (awaiting .exit)) (now (clocks .exit))
+        (now (operations .exit)) (now (contexts .exit)) (now (order .exit)) (now (stack .exit)) (now (registers .exit)) (now (saved .exit))
+        (now (responses .exit))) ⌝ }
 {
     let panels = calls::byte_at(s, calls::PANELS_AT);
     let own = calls::byte_at(s, calls::OWN_AT);
-    let opened = replica::fresh(panels, PanelNo(own));
+    let opened = replica::fresh(
+        held,
+        known,
+        awaiting,
+        clocks,
+        operations,
+        contexts,
+        order,
+        stack,
+        registers,
+        saved,
+        responses,
+        panels,
+        PanelNo(own),
+    );
     let count = calls::call_count(s);
     let refusal = opened.refusal;
-    let first = opened.state;
+    let core = opened.core;
+    let counters = opened.counters;
     if out.len() / answers::ANSWER_SIZE < count {
         return Ran {
             room: false,
             refusal,
             ran: 0,
-            state: first,
+            core,
+            counters,
         };
     }
-    let state = run_all(first, s, count, out);
+    let all = run_all(
+        core,
+        counters,
+        held,
+        known,
+        awaiting,
+        clocks,
+        operations,
+        contexts,
+        order,
+        stack,
+        registers,
+        saved,
+        responses,
+        s,
+        count,
+        out,
+    );
+    let core = all.core;
+    let counters = all.counters;
     Ran {
         room: true,
         refusal,
         ran: count,
-        state,
+        core,
+        counters,
     }
 }
 
-// The state after the calls of `s`, which are so many, on p; their answers are put at the front of `out`.
-fn run_all(p: State, s: &[u8], count: usize, out: &mut [u8]) -> State
-    requires { ⌜ Inv p ⌝ }
+// Runs the calls of `s`, which are so many, on the panel and puts their answers at the front of `out`.
+fn run_all(
+    core: Core,
+    counters: Counters,
+    held: &mut [u64; 8],
+    known: &mut [u64; 8],
+    awaiting: &mut [u64; 8],
+    clocks: &mut [u32; 512],
+    operations: &mut [u64; 512],
+    contexts: &mut [u64; 4096],
+    order: &mut [u16; 512],
+    stack: &mut [u16; 512],
+    registers: &mut [u32; 64],
+    saved: &mut [u64; 512],
+    responses: &mut [u32; 512],
+    s: &[u8],
+    count: usize,
+    out: &mut [u8],
+) -> EntriesResult
+    requires { ⌜ Inv (packed core counters (now held) (now known) (now awaiting) (now clocks) (now operations) (now contexts) (now order)
+        (now stack) (now registers) (now saved) (now responses)) ⌝ }
     requires { ⌜ count ≡ callCount (now s) ⌝ }
-    requires { ⌜ Room (now out) 0 (answersBytes (model p) (entriesOf (now s))) ⌝ }
-    ensures { λ q. ⌜ RanAll p (now (s .entry)) (now (out .entry)) (now (out .exit)) q ⌝ }
+    requires { ⌜ Room (now out) 0 (answersBytes (model (packed core counters (now held) (now known) (now awaiting) (now clocks)
+        (now operations) (now contexts) (now order) (now stack) (now registers) (now saved) (now responses))) (entriesOf (now s))) ⌝ }
+    ensures { λ r. ⌜ RanAll
+        (packed core counters (now (held .entry)) (now (known .entry)) (now (awaiting .entry)) (now (clocks .entry))
+        (now (operations .entry)) (now (contexts .entry)) (now (order .entry)) (now (stack .entry)) (now (registers .entry))
+        (now (saved .entry)) (now (responses .entry)))
+        (now (s .entry)) (now (out .entry)) (now (out .exit))
+        (packed (r .core) (r .counters) (now (held .exit)) (now (known .exit)) (now (awaiting .exit)) (now (clocks .exit))
+        (now (operations .exit)) (now (contexts .exit)) (now (order .exit)) (now (stack .exit)) (now (registers .exit)) (now (saved .exit))
+        (now (responses .exit))) ⌝ }
 {
-    let mut q = p;
+    let mut panel = core;
+    let mut counted = counters;
     let mut at = calls::CALLS_AT;
     let mut behind = 0;
     let mut i = 0;
     while i < count {
-        let called = calls::call(q, s, at);
-        q = called.state;
+        let called = calls::call(
+            panel,
+            counted,
+            held,
+            known,
+            awaiting,
+            clocks,
+            operations,
+            contexts,
+            order,
+            stack,
+            registers,
+            saved,
+            responses,
+            s,
+            at,
+        );
+        panel = called.core;
+        counted = called.counters;
         behind = answers::put_answer(out, behind, called.answer);
         at += calls::CALL_SIZE;
         i += 1;
     }
-    q
+    EntriesResult {
+        core: panel,
+        counters: counted,
+    }
 }

@@ -10,16 +10,75 @@ fn main() {
 
 // Carry-out on an idle panel.
 fn idle_execute() -> u8 {
-    let opened = replica::fresh(1, PanelNo(0));
-    let called = replica::steps::execute(opened.state);
+    let mut held = [0u64; 8];
+    let mut known = [0u64; 8];
+    let mut awaiting = [0u64; 8];
+    let mut clocks = [0u32; 512];
+    let mut operations = [0u64; 512];
+    let mut contexts = [0u64; 4096];
+    let mut order = [0u16; 512];
+    let mut stack = [0u16; 512];
+    let mut registers = [0u32; 64];
+    let mut saved = [0u64; 512];
+    let mut responses = [0u32; 512];
+    let opened = replica::fresh(
+        &mut held,
+        &mut known,
+        &mut awaiting,
+        &mut clocks,
+        &mut operations,
+        &mut contexts,
+        &mut order,
+        &mut stack,
+        &mut registers,
+        &mut saved,
+        &mut responses,
+        1,
+        PanelNo(0),
+    );
+    let called = steps::execute(
+        opened.core,
+        &mut awaiting,
+        &operations,
+        &order,
+        &mut stack,
+        &mut registers,
+        &mut saved,
+        &mut responses,
+    );
     let answer = called.answer;
     answer.refusal
 }
 
 // Undo on an idle panel.
 fn idle_undo() -> u8 {
-    let opened = replica::fresh(1, PanelNo(0));
-    let called = replica::steps::undo(opened.state);
+    let mut held = [0u64; 8];
+    let mut known = [0u64; 8];
+    let mut awaiting = [0u64; 8];
+    let mut clocks = [0u32; 512];
+    let mut operations = [0u64; 512];
+    let mut contexts = [0u64; 4096];
+    let mut order = [0u16; 512];
+    let mut stack = [0u16; 512];
+    let mut registers = [0u32; 64];
+    let mut saved = [0u64; 512];
+    let mut responses = [0u32; 512];
+    let opened = replica::fresh(
+        &mut held,
+        &mut known,
+        &mut awaiting,
+        &mut clocks,
+        &mut operations,
+        &mut contexts,
+        &mut order,
+        &mut stack,
+        &mut registers,
+        &mut saved,
+        &mut responses,
+        1,
+        PanelNo(0),
+    );
+    let called = steps::undo(opened.core, &operations, &stack, &mut registers, &saved);
     let answer = called.answer;
     answer.refusal
 }

@@ -20,7 +20,32 @@ pub extern "C" fn mizzencord_print(input: &[u8], out: &mut [u8]) -> usize
 pub extern "C" fn mizzencord_run(calls: &[u8], out: &mut [u8]) -> usize
     ensures { λ n. ⌜ Answered (now (calls .entry)) (now (out .entry)) (now (out .exit)) n ⌝ }
 {
-    let r = driver::run(calls, out);
+    let mut held = [0u64; 8];
+    let mut known = [0u64; 8];
+    let mut awaiting = [0u64; 8];
+    let mut clocks = [0u32; 512];
+    let mut operations = [0u64; 512];
+    let mut contexts = [0u64; 4096];
+    let mut order = [0u16; 512];
+    let mut stack = [0u16; 512];
+    let mut registers = [0u32; 64];
+    let mut saved = [0u64; 512];
+    let mut responses = [0u32; 512];
+    let r = driver::run(
+        calls,
+        out,
+        &mut held,
+        &mut known,
+        &mut awaiting,
+        &mut clocks,
+        &mut operations,
+        &mut contexts,
+        &mut order,
+        &mut stack,
+        &mut registers,
+        &mut saved,
+        &mut responses,
+    );
     r.ran
 }
 

@@ -11,11 +11,10 @@ use Rattle.creek.specs.Calls.{Replica}
 use Rattle.creek.specs.StableReply.{repliedTo}
 use Rattle.creek.specs.Agreement.{AcceptedSame, Idle, SideBySide}
 use Rattle.creek.proofs.Agreement.{grows-at-end, side-by-side}
-use Rattle.replica.specs.declared.Ran.{Ran}
+use Rattle.due.specs.Due.{Ran, RunDue}
 use Rattle.replica.specs.declared.RegisterValue.{RegisterValue}
 use Rattle.replica.specs.declared.PlacedRequest.{PlacedRequest}
 use Rattle.replica.specs.Model.{model}
-use Rattle.replica.specs.Due.{RunDue}
 use Rattle.replica.specs.Shown.{RegisterShown, PlaceShown}
 use Rattle.history.specs.History.{stay}
 use Rattle.history.specs.PanelHistory.{PanelHistory, historyOf}

@@ -11,8 +11,7 @@ use Rattle.creek.specs.declared.Answer.{Answer}
 use Rattle.creek.specs.Book.{Call}
 use Rattle.creek.specs.Calls.{Replica, step, answer}
 use Rattle.creek.proofs.Clocks.{in-event-order, never-clock-back}
-use Rattle.replica.specs.declared.State.{State}
-use Rattle.replica.specs.declared.Opened.{Opened}
+use Rattle.replica.specs.State.{State, Opened}
 use Rattle.replica.specs.Model.{Fresh}
 use Rattle.history.specs.History.{Leads, refusalsIn, answersTo}
 use Rattle.history.specs.Clocks.{isClockBack, PanelClocks}

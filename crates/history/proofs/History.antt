@@ -21,13 +21,11 @@ use Rattle.creek.specs.Showing.{undosShown, executionsShown, owedShown}
 use Rattle.creek.specs.Demand.{Demand3}
 use Rattle.creek.proofs.CallLaws.{answer-refusal, step-book, run-book, run-append}
 use Rattle.creek.proofs.Demand.{demand-3}
-use Rattle.replica.specs.declared.State.{State}
-use Rattle.replica.specs.declared.Opened.{Opened}
-use Rattle.replica.specs.declared.Ran.{Ran}
-use Rattle.replica.specs.declared.DueReply.{DueReply}
+use Rattle.replica.specs.State.{State, Opened}
+use Rattle.due.specs.Due.{Ran, noReply, replyIn, isAwaited, dueCall, dueReplies, mostReplies, stepsOwed, repliesOwed, RunDue}
+use Rattle.steps.specs.declared.DueReply.{DueReply}
 use Rattle.replica.specs.Model.{model, Inv, Fresh}
-use Rattle.replica.specs.Due.{noReply, replyIn, isAwaited, dueCall, dueReplies, mostReplies, stepsOwed, repliesOwed, RunDue}
-use Rattle.replica.proofs.ExecuteLaws.{registers-are}
+use Rattle.replica.proofs.ModelLaws.{registers-are}
 use Rattle.history.specs.History.{openedBook, refusals, answersTo, stepsDue, answersDue, Leads, stay, call, all-due, refusalsIn}
 use Rattle.history.specs.History.{repliesIn, DueStepsDone, AllDueDone, PanelDemand3}
 

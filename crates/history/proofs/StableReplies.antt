@@ -22,11 +22,10 @@ use Rattle.creek.proofs.CallLaws.{run-append}
 use Rattle.creek.proofs.DueLaws.{run-due}
 use Rattle.creek.proofs.SoundLaws.{step-sound, fresh-sound}
 use Rattle.creek.proofs.StableReply.{sound-stable-reply}
-use Rattle.replica.specs.declared.State.{State}
-use Rattle.replica.specs.declared.Ran.{Ran}
-use Rattle.replica.specs.declared.DueReply.{DueReply}
+use Rattle.replica.specs.State.{State}
+use Rattle.due.specs.Due.{Ran, noReply, replyIn, isAwaited, dueCall, dueReplies, mostReplies, stepsOwed, repliesOwed, RunDue}
+use Rattle.steps.specs.declared.DueReply.{DueReply}
 use Rattle.replica.specs.Model.{model}
-use Rattle.replica.specs.Due.{noReply, replyIn, isAwaited, dueCall, dueReplies, mostReplies, stepsOwed, repliesOwed, RunDue}
 use Rattle.history.specs.History.{answersTo, Leads}
 use Rattle.history.specs.PanelHistory.{PanelHistory, historyOf}
 use Rattle.history.specs.Agreement.{settledList, callAt, answerAt, replyAt, PanelStableReplies}

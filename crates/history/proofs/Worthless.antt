@@ -20,10 +20,10 @@ use Rattle.creek.specs.Replies.{executionMark, executionReply, acceptedAnswer, 
 use Rattle.creek.specs.Calls.{Replica, badShop, fresh, accept, step}
 use Rattle.creek.specs.History.{run, dueCalls}
 use Rattle.creek.specs.Showing.{registerShown, requestsShown, undosShown, executionsShown, owedShown}
-use Rattle.replica.specs.declared.State.{State}
-use Rattle.replica.specs.declared.DueReply.{DueReply}
+use Rattle.replica.specs.State.{State}
+use Rattle.steps.specs.declared.DueReply.{DueReply}
 use Rattle.replica.specs.Model.{model, Inv, Fresh}
-use Rattle.replica.specs.Due.{noReply, RunDue}
+use Rattle.due.specs.Due.{noReply, RunDue}
 use Rattle.history.specs.History.{answersTo, Leads, stay, call, all-due, refusalsIn, repliesIn, AllDueDone, PanelDemand3}
 use Rattle.history.specs.Worthless.{PanelCall, single, runDue, singly, Panel, next, after, standFor, answersFrom, KeepsCall}
 use Rattle.history.specs.Worthless.{KeepsCalls, reached, Keeps, RefusesEach, RepliesAlways, LeavesAlone, ExecutesAll}

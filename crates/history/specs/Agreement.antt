@@ -11,13 +11,12 @@ use Rattle.creek.specs.Book.{Call, undo}
 use Rattle.creek.specs.Replies.{stableMark, done, responseIn}
 use Rattle.creek.specs.StableReply.{repliedTo}
 use Rattle.creek.specs.Agreement.{Extends, AcceptedSame, Idle}
-use Rattle.replica.specs.declared.State.{State}
-use Rattle.replica.specs.declared.Ran.{Ran}
-use Rattle.replica.specs.declared.DueReply.{DueReply}
+use Rattle.replica.specs.State.{State}
+use Rattle.due.specs.Due.{Ran, noReply, RunDue}
+use Rattle.steps.specs.declared.DueReply.{DueReply}
 use Rattle.replica.specs.declared.RegisterValue.{RegisterValue}
 use Rattle.replica.specs.declared.PlacedRequest.{PlacedRequest}
 use Rattle.replica.specs.Model.{model}
-use Rattle.replica.specs.Due.{noReply, RunDue}
 use Rattle.replica.specs.Shown.{RegisterShown, PlaceShown}
 use Rattle.history.specs.History.{Leads}
 use Rattle.history.specs.PanelHistory.{PanelHistory, historyOf}

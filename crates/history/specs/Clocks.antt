@@ -9,7 +9,7 @@ use Rattle.lists.specs.Lists.{count}
 use Rattle.request.specs.Refusal as refused
 use Rattle.creek.specs.declared.Answer.{Answer}
 use Rattle.creek.specs.Clocks.{InEventOrder}
-use Rattle.replica.specs.declared.State.{State}
+use Rattle.replica.specs.State.{State}
 use Rattle.replica.specs.Model.{model}
 use Rattle.history.specs.History.{refusalsIn}
 

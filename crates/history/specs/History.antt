@@ -19,12 +19,10 @@ use Rattle.creek.specs.Calls.{Replica, fresh, step, answer, bringsRequest, isCo
 use Rattle.creek.specs.History.{acceptedIn, dueCalls}
 use Rattle.creek.specs.Showing.{requestsShown, commitsShown, undosShown, executionsShown, owedShown}
 use Rattle.creek.specs.Demand.{mostUndos}
-use Rattle.replica.specs.declared.State.{State}
-use Rattle.replica.specs.declared.Called.{Called}
-use Rattle.replica.specs.declared.Ran.{Ran}
-use Rattle.replica.specs.declared.DueReply.{DueReply}
+use Rattle.replica.specs.State.{State, Called}
+use Rattle.due.specs.Due.{Ran, noReply, replyIn, isAwaited, mostReplies, stepsOwed, RunDue}
+use Rattle.steps.specs.declared.DueReply.{DueReply}
 use Rattle.replica.specs.Model.{model, Inv, Kept}
-use Rattle.replica.specs.Due.{noReply, replyIn, isAwaited, mostReplies, stepsOwed, RunDue}
 
 -- ---- the shift book, fed the calls alone
 

@@ -11,8 +11,7 @@ use Rattle.request.specs.Refusal as refused
 use Rattle.creek.specs.declared.Answer.{Answer}
 use Rattle.creek.specs.Book.{Call, invoke, deliver, commit, undo, execute}
 use Rattle.creek.specs.Agreement.{History, requestsIn, settlementsIn}
-use Rattle.replica.specs.declared.State.{State}
-use Rattle.replica.specs.declared.Opened.{Opened}
+use Rattle.replica.specs.State.{State, Opened}
 use Rattle.replica.specs.Model.{Fresh}
 use Rattle.history.specs.History.{Leads}
 

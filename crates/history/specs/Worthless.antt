@@ -16,13 +16,10 @@ use Rattle.creek.specs.Book.{Call, execute}
 use Rattle.creek.specs.Calls.{isUndo, isExecute}
 use Rattle.creek.specs.Showing.{undosShown, executionsShown}
 use Rattle.creek.specs.Examples.{setTo, make}
-use Rattle.replica.specs.declared.State.{State}
-use Rattle.replica.specs.declared.Opened.{Opened}
-use Rattle.replica.specs.declared.Called.{Called}
-use Rattle.replica.specs.declared.Ran.{Ran}
+use Rattle.replica.specs.State.{State, Opened, Called}
+use Rattle.due.specs.Due.{Ran, noReply, RunDue}
 use Rattle.replica.specs.declared.RegisterValue.{RegisterValue}
 use Rattle.replica.specs.Model.{model, Inv, Fresh, Kept}
-use Rattle.replica.specs.Due.{noReply, RunDue}
 use Rattle.replica.specs.Shown.{RegisterShown}
 use Rattle.history.specs.History.{stepsDue, answersDue, acceptedCalls}
 

@@ -7,3 +7,4 @@ pub mod PlaceLaws
 pub mod StartLaws
 pub mod MapLaws
 pub mod StepLaws
+pub mod HalvesLaws

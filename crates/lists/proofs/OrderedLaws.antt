@@ -1,13 +1,15 @@
--- Laws of lists in a strict order: such a list is determined by its members, and with it what a test keeps of it after an insertion; and
+-- Laws of lists in a strict order: its elements by their places; such a list is determined by its members, and with it what a test keeps of it after an insertion; and
 -- what is found after one.
-use Prim.Native.Nat.{_+_, _≤_}
+use Prim.Native.Nat.{ℕ, zero, suc, _+_, _≤_, _<_}
 use native.Mathlib.Omega.{arith}
 use mathlib.Core.Path.{_≡_, refl, sym, ap, _∙_}
 use mathlib.Core.Bool.{Bool, true, false, not, _&&_, cond}
 use mathlib.Core.List.{List, [], _∷_}
+use lib.ListN.{length, getD}
 use borrow.Author.Tests.{not-false}
 use Rattle.lists.specs.Lists.{one, count, keep, someIf, find, insert, Ordered}
 use Rattle.lists.proofs.BoolLaws.{true-not-false}
+use Rattle.lists.proofs.AllLaws.{all-at, none-all}
 use Rattle.lists.proofs.ListLaws.{one-true, one-false, count-weaker, count-keep, count-kept, count-insert, first-ordered}
 use Rattle.lists.proofs.ListLaws.{rest-ordered, keep-ordered, insert-ordered}
 
@@ -21,6 +23,14 @@ module _ {A : Type 0} (before : A → A → Bool) where
           → find test (cond b (x ∷ y ∷ ys) (y ∷ insert before x ys)) ≡ someIf (test y) y (find test ys)
       go true ih = rw e
       go false ih = ap (someIf (test y) y) ih
+
+  -- of two elements the one at the lower place is before the other
+  pub ordered-at : (l : List A) → Ordered before l → (i j : ℕ) (d : A) → i < j → j < length l → before (getD l i d) (getD l j d) ≡ true
+  ordered-at [] o i j d low inside = absurd (omega arith)
+  ordered-at (x ∷ xs) o i zero d low inside = absurd (omega arith)
+  ordered-at (x ∷ xs) o zero (suc j) d low inside =
+      not-false _ (all-at (λ y. not (before x y) ≡ false) xs j d (none-all (λ y. not (before x y)) xs (first-ordered before o)) (omega arith))
+  ordered-at (x ∷ xs) o (suc i) (suc j) d low inside = ordered-at xs (rest-ordered before o) i j d (omega arith) (omega arith)
 
   module _ (irreflexive : (x : A) → before x x ≡ false)
       (transitive : (x y z : A) → before x y ≡ true → before y z ≡ true → before x z ≡ true)

@@ -3,53 +3,26 @@ use Prim.Native.Nat.{ℕ}
 use native.Mathlib.Omega.{arith}
 use mathlib.Core.Path.{_≡_, refl, sym, ap, _∙_}
 use mathlib.Core.Bool.{true, false, not, _&&_}
-use mathlib.Core.List.{List}
-use lib.ListN.{replicate, length-replicate}
+use lib.ListN.{length-replicate}
 use lib.Dec.{leb, ltb}
 use borrow.Author.Tests.{le-leb, lt-ltb, leb-true, ltb-true, not-false}
 use Rattle.lists.specs.Lists.{one}
 use Rattle.lists.proofs.BoolLaws.{both, both-true, neither, neither-true, true-not-false}
-use Rattle.sets.specs.declared.Context.{Context}
 use Rattle.numbers.specs.declared.PanelNo.{PanelNo}
-use Rattle.numbers.specs.Numbers.{mostPanels, clockReading}
-use Rattle.sets.specs.Sets.{emptySet}
+use Rattle.numbers.specs.Numbers.{mostPanels}
 use Rattle.request.specs.Refusal as refused
 use Rattle.sets.proofs.SetLaws.{member-empty}
-use Rattle.registers.specs.declared.Saved.{Saved}
-use Rattle.registers.specs.Replay.{zeroBoard}
 use Rattle.registers.proofs.ReplayLaws.{replay-nothing}
 use Rattle.creek.specs.Plan.{lastEvent, lastClock}
 use Rattle.creek.specs.Book.{emptyBook}
 use Rattle.creek.specs.Calls.{badShop, replicaOf, fresh, freshRefusal}
+use Rattle.slots.specs.Slots.{mostSlots}
+use Rattle.store.specs.Requests.{mostWords}
 use Rattle.creek.specs.Sound.{mostRequests}
 use Rattle.creek.proofs.SoundLaws.{fresh-sound}
-use Rattle.replica.specs.declared.Body.{Body}
-use Rattle.replica.specs.declared.State.{State}
+use Rattle.replica.specs.State.{State}
+use Rattle.replica.proofs.States.{emptyState}
 use Rattle.replica.specs.Model.{planOf, bookOf, model, Inv, GoodShop, Empty, Fresh}
-
-abbrev pub emptyState : ℕ → PanelNo → Context → Body → List ℕ → Saved → State
-emptyState panels own none body board saved = record {
-  panels = panels;
-  own = own;
-  held = none;
-  known = none;
-  awaiting = none;
-  events = 0;
-  clock = clockReading 0;
-  clocks = replicate mostRequests 0;
-  bodies = replicate mostRequests body;
-  order = replicate mostRequests 0;
-  committed = 0;
-  ordered = 0;
-  stack = replicate mostRequests 0;
-  executed = 0;
-  stacked = 0;
-  registers = board;
-  saved = replicate mostRequests saved;
-  responses = replicate mostRequests 0;
-  commits = 0;
-  counters = record { undos = 0; executions = 0 };
-}
 
 -- ---- the test of fresh
 
@@ -67,11 +40,14 @@ unfolding badShop
 shop-good panels own g =
     neither (ap not (both (le-leb 1 panels (omega (arith, g))) (le-leb panels mostPanels (g .few)))) (ap not (lt-ltb own panels (g .below)))
 
+pub one-panel-shop : GoodShop 1 0
+one-panel-shop = record { few = omega arith; below = omega arith }
+
 -- ---- the state
 
-module _ (panels : ℕ) (own : PanelNo) (body : Body) (saved : Saved) (good : GoodShop panels (own .0)) where
+module _ (panels : ℕ) (own : PanelNo) (good : GoodShop panels (own .0)) where
   abbrev start : State
-  start = emptyState panels own emptySet body zeroBoard saved
+  start = emptyState panels own
 
   start-model : model start ≡ fresh panels (own .0)
   unfolding model bookOf planOf fresh
@@ -82,11 +58,14 @@ module _ (panels : ℕ) (own : PanelNo) (body : Body) (saved : Saved) (good : Go
   start-inv = record {
     counts = record { committed = omega arith; ordered = omega arith; executed = omega arith; stacked = omega arith; done = omega arith };
     lengths = record {
-      clocks = length-replicate {A = ℕ} mostRequests 0;
-      bodies = length-replicate mostRequests body;
+      requests = record {
+        clocks = length-replicate {A = ℕ} mostSlots 0;
+        operations = length-replicate {A = ℕ} mostSlots 0;
+        contexts = length-replicate {A = ℕ} mostWords 0;
+      };
       order = length-replicate {A = ℕ} mostRequests 0;
       stack = length-replicate {A = ℕ} mostRequests 0;
-      saved = length-replicate mostRequests saved;
+      saved = length-replicate {A = ℕ} mostRequests 0;
       responses = length-replicate {A = ℕ} mostRequests 0;
       held = length-replicate {A = ℕ} mostPanels 0;
       awaiting = length-replicate {A = ℕ} mostPanels 0;
@@ -101,10 +80,8 @@ module _ (panels : ℕ) (own : PanelNo) (body : Body) (saved : Saved) (good : Go
     sound = rw start-model (fresh-sound panels (own .0));
   }
 
-  -- with the empty set and the zero board as they are computed
-  pub empty-made : (none : Context) (board : List ℕ) → none ≡ emptySet → board ≡ zeroBoard
-      → Empty panels (own .0) (emptyState panels own none body board saved)
-  empty-made none board e f = rw (e, f) record { state = start-model; invariant = start-inv }
+  pub empty-made : Empty panels (own .0) (emptyState panels own)
+  empty-made = record { state = start-model; invariant = start-inv }
 
 -- ---- fresh
 

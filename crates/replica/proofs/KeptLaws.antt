@@ -11,7 +11,7 @@ use Rattle.creek.specs.Replies.{refusedWith, namedByRefusal, acceptedAnswer, an
 use Rattle.creek.specs.Calls.{accept, step}
 use Rattle.creek.specs.Sound.{Sound}
 use Rattle.creek.proofs.SoundLaws.{step-sound}
-use Rattle.replica.specs.declared.State.{State}
+use Rattle.replica.specs.State.{State}
 use Rattle.replica.specs.Model.{bookOf, model, Inv, Kept}
 
 -- a refused call that answers with its refusal and returns the state as it was

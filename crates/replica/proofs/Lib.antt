@@ -1,21 +1,10 @@
--- The laws behind the calls: what they keep, how the map looks at the state, the log, and the files for each call.
+-- Laws of a panel's memory: what keeps a call's promise, how the map looks at the memory, the log, the states that the calls lead to, and
+-- the laws of fresh and of the showing calls.
+pub mod States
 pub mod KeptLaws
 pub mod ModelLaws
 pub mod RequestLaws
 pub mod LogLaws
 pub mod FreshLaws
 pub mod BoundLaws
-pub mod UndoLaws
-pub mod ExecuteLaws
 pub mod ShowingLaws
-pub mod OwnLaws
-pub mod DueLaws
-pub mod EnteringStates
-pub mod EnteringLaws
-pub mod DeliveringLaws
-pub mod InvokingLaws
-pub mod SettlingHeldLaws
-pub mod SettlingRefusalLaws
-pub mod SettlingPlanLaws
-pub mod SettlingExecutionLaws
-pub mod SettlingLaws

@@ -10,11 +10,11 @@ use Rattle.request.specs.declared.Operation.{Operation}
 use Rattle.request.specs.declared.Request.{Request}
 use Rattle.registers.specs.declared.Saved.{Saved}
 use Rattle.registers.specs.Effect.{exec, response, Executed}
-use Rattle.registers.specs.Rollback.{savedOf, restored}
+use Rattle.registers.specs.Rollback.{savedOf, savedIn, restored}
 use Rattle.registers.specs.Replay.{replay}
 use Rattle.registers.proofs.ReplayLaws.{replay-more, replay-rolled-back}
 use Rattle.creek.specs.Execution.{operations}
-use Rattle.replica.specs.Model.{operationAt, registersBefore, noSaved, Log}
+use Rattle.replica.specs.Model.{operationAt, registersBefore, savedAt, Log}
 
 abbrev noOperation : Operation
 noOperation = record { code = 0; r = 0; q = 0; amount = 0 }
@@ -49,12 +49,12 @@ module _ (board : List Request) (x : Request) where
   replay-last = ap replay operations-more ∙ replay-more (operations board) (x .operation)
 
 -- the last request rolled back, from what was saved at its place
-pub log-shorter : (board : List Request) (x : Request) (registers after : List ℕ) (saved : List Saved) (responses : List ℕ)
+pub log-shorter : (board : List Request) (x : Request) (registers after saved responses : List ℕ)
     → Log (board ++ x ∷ []) registers saved responses
-    → after ≡ restored (x .operation) (getD saved (length board) noSaved) registers → Log board after saved responses
+    → after ≡ restored (x .operation) (savedAt saved (length board)) registers → Log board after saved responses
 log-shorter board x registers after saved responses log e =
     let long : length (board ++ x ∷ []) ≡ suc (length board) = simp length-append (omega arith) in
-    let kept : getD saved (length board) noSaved ≡ savedOf (x .operation) (replay (operations board)) =
+    let kept : savedAt saved (length board) ≡ savedOf (x .operation) (replay (operations board)) =
     log .restores (length board) (omega arith)
     ∙ ap (λ (o : Operation). savedOf o (registersBefore (board ++ x ∷ []) (length board))) (operation-last board x)
     ∙ ap (savedOf (x .operation)) (registers-last board x) in
@@ -75,16 +75,16 @@ log-shorter board x registers after saved responses log e =
     }
 
 -- one more request executed, with what was saved before it and its response put at its place
-module _ (board : List Request) (x : Request) (registers after : List ℕ) (saved : List Saved) (responses : List ℕ) (s : Saved) (v : ℕ)
+module _ (board : List Request) (x : Request) (registers after saved responses : List ℕ) (word v : ℕ)
     (log : Log board registers saved responses) (room-saved : length board < length saved) (room : length board < length responses)
-    (e : s ≡ savedOf (x .operation) registers) (done : Executed (x .operation) registers after v) where
+    (e : savedIn word ≡ savedOf (x .operation) registers) (done : Executed (x .operation) registers after v) where
   saved-at : (k : ℕ) → k < length board + 1
-      → getD (set saved (length board) s) k noSaved ≡ savedOf (operationAt (board ++ x ∷ []) k) (registersBefore (board ++ x ∷ []) k)
+      → savedAt (set saved (length board) word) k ≡ savedOf (operationAt (board ++ x ∷ []) k) (registersBefore (board ++ x ∷ []) k)
   saved-at =
       below-more _ (length board)
-      (λ k h. getD-set-other saved (length board) k s noSaved (λ z. omega arith) ∙ log .restores k h
+      (λ k h. ap savedIn (getD-set-other saved (length board) k word 0 (λ z. omega arith)) ∙ log .restores k h
       ∙ rw (operation-below board x k h, registers-below board x k (omega arith)))
-      (getD-set-same saved (length board) s noSaved room-saved ∙ e ∙ ap (savedOf (x .operation)) (log .replayed)
+      (ap savedIn (getD-set-same saved (length board) word 0 room-saved) ∙ e ∙ ap (savedOf (x .operation)) (log .replayed)
       ∙ rw (operation-last board x, registers-last board x))
 
   response-at : (k : ℕ) → k < length board + 1
@@ -96,7 +96,7 @@ module _ (board : List Request) (x : Request) (registers after : List ℕ) (save
       (getD-set-same responses (length board) v 0 room ∙ done .response ∙ ap (response (x .operation)) (log .replayed)
       ∙ rw (operation-last board x, registers-last board x))
 
-  log-more : Log (board ++ x ∷ []) after (set saved (length board) s) (set responses (length board) v)
+  log-more : Log (board ++ x ∷ []) after (set saved (length board) word) (set responses (length board) v)
   log-more =
       let long : length (board ++ x ∷ []) ≡ length board + 1 = simp length-append (omega arith) in
       record {
@@ -105,5 +105,5 @@ module _ (board : List Request) (x : Request) (registers after : List ℕ) (save
         replies = λ k h. response-at k (omega arith);
       }
 
-  pub log-longer : (n : ℕ) → length board ≡ n → Log (board ++ x ∷ []) after (set saved n s) (set responses n v)
+  pub log-longer : (n : ℕ) → length board ≡ n → Log (board ++ x ∷ []) after (set saved n word) (set responses n v)
   log-longer n e = rw (← e) log-more

@@ -2,26 +2,33 @@
 -- on the board and the next one to execute; what is to be rolled back and to be executed.
 use Prim.Native.Nat.{ℕ, suc, _-_, _≤_, _<_}
 use native.Mathlib.Omega.{arith}
-use mathlib.Core.Path.{_≡_, sym, ap, _∙_}
-use mathlib.Core.List.{List, [], _∷_, _++_, map-append, reverse, reverse-append}
+use mathlib.Core.Path.{_≡_, refl, sym, ap, _∙_}
+use mathlib.Core.List.{List, [], _∷_, _++_, map, map-append, reverse, reverse-append}
 use lib.ListN.{length, take, drop, getD, length-map, length-drop, length-reverse, take-append-drop, List·getD-map}
-use lib.Seq.{take-suc, drop-cons, drop-append-le, drop-length, length-take-le, getD-take}
-use Rattle.lists.proofs.AllLaws.{all-at}
-use Rattle.lists.proofs.MapLaws.{map-drop}
+use lib.Seq.{take-suc, drop-cons, drop-append-le, drop-length, length-take-le, take-take, take-at, getD-take}
+use Rattle.lists.proofs.AllLaws.{all-at, all-take}
+use Rattle.lists.proofs.MapLaws.{map-take, map-drop}
 use Rattle.lists.specs.Lists.{count}
+use Rattle.lists.specs.Places.{All}
 use Rattle.numbers.specs.declared.Number.{Number}
 use Rattle.request.specs.declared.Request.{Request}
+use Rattle.numbers.specs.Numbers.{slotOf}
+use Rattle.numbers.proofs.NumberLaws.{slot-of-number}
 use Rattle.slots.specs.Slots.{mostSlots, IsSlot, PartsAsk}
 use Rattle.creek.specs.Plan.{order, hasNumber}
+use Rattle.registers.specs.Replay.{replay}
+use Rattle.creek.specs.Execution.{operations, registers}
 use Rattle.creek.specs.Sound.{SoundPlan}
-use Rattle.replica.specs.declared.State.{State}
-use Rattle.replica.specs.Model.{requestAt, requestsAt, orderSlots, boardSlots, orderOf, boardOf, planOf, bookOf, model, Inv}
+use Rattle.creek.proofs.StackLaws.{stacked-board}
+use Rattle.replica.specs.State.{State}
+use Rattle.store.specs.Requests.{requestAt}
+use Rattle.replica.specs.Model.{requestsAt, orderSlots, boardSlots, orderOf, boardOf, planOf, bookOf, model, Inv}
 
 -- ---- of every state
 
 -- the request at a slot of that state
 abbrev pub requestOf : State → ℕ → Request
-requestOf q slot = requestAt (q .clocks) (q .bodies) slot
+requestOf q slot = requestAt (q .clocks) (q .operations) (q .contexts) slot
 
 -- the slot on top of the board
 abbrev pub topSlot : State → ℕ
@@ -38,6 +45,16 @@ requests-more q slots n h =
     ap (requestsAt q) (take-suc slots n 0 h)
     ∙ map-append (requestOf q) (take n slots) (getD slots n 0 ∷ [])
 
+-- the slot of a request
+abbrev slotIn : Request → ℕ
+slotIn x = slotOf (x .number)
+
+-- slots are read back from the requests there
+slots-back : (q : State) (slots : List ℕ) → All IsSlot slots → map slotIn (requestsAt q slots) ≡ slots
+unfolding requestAt
+slots-back q [] h = refl
+slots-back q (t ∷ ts) h = λ i. slot-of-number t (h .0) i ∷ slots-back q ts (h .1) i
+
 -- the standing order of the plan is that of the state
 pub order-planned : (q : State) → order (planOf q) ≡ orderOf q
 unfolding planOf
@@ -50,7 +67,7 @@ module _ (q : State) (inv : Inv q) where
   unfolding model bookOf
   plan-sound = inv .sound .plan
 
-  length-order-slots : length (orderSlots q) ≡ q .ordered
+  pub length-order-slots : length (orderSlots q) ≡ q .ordered
   length-order-slots = length-take-le (q .ordered) (q .order) (omega (arith, inv .counts, inv .lengths))
 
   length-board-slots : length (boardSlots q) ≡ q .stacked
@@ -62,16 +79,35 @@ module _ (q : State) (inv : Inv q) where
   pub length-board : length (boardOf q) ≡ q .stacked
   length-board = length-map (boardSlots q) (requestOf q) ∙ length-board-slots
 
-  -- the executed list may be compared with the first n of an order
-  pub executed-asks : (order : List ℕ) (n : ℕ) → n ≤ mostSlots → length order ≡ mostSlots → PartsAsk (q .stack) (q .executed) order n 0
-  executed-asks order n inside long = record {
-    first = omega arith;
+  -- the executed list may be compared with the first n of an order from a place on
+  pub executed-asks : (order : List ℕ) (n at : ℕ) → at ≤ q .executed → at ≤ n → n ≤ mostSlots → length order ≡ mostSlots
+      → PartsAsk (q .stack) (q .executed) order n at
+  executed-asks order n at first second inside long = record {
+    first = first;
     first-inside = omega (arith, inv .counts);
     first-long = inv .lengths .stack;
-    second = omega arith;
+    second = second;
     second-inside = inside;
     second-long = long;
   }
+
+  -- the executed list is a start of the standing order
+  pub executed-follows : take (q .executed) (q .stack) ≡ take (q .executed) (q .order)
+  unfolding model bookOf
+  executed-follows =
+      let e = q .executed in
+      let board : take e (boardOf q) ≡ requestsAt q (take e (q .stack)) =
+      sym (map-take (requestOf q) e (boardSlots q)) ∙ ap (requestsAt q) (take-take e (q .stacked) (q .stack) (inv .counts .executed)) in
+      let order : take e (orderOf q) ≡ requestsAt q (take e (q .order)) =
+      sym (map-take (requestOf q) e (orderSlots q)) ∙ ap (requestsAt q) (take-take e (q .ordered) (q .order) (inv .counts .done)) in
+      let start : take e (boardOf q) ≡ take e (orderOf q) =
+      sym (take-at (take e (boardOf q)) (drop e (orderOf q)) e (length-take-le e (boardOf q) (omega (arith, inv .counts, length-board))))
+      ∙ ap (take e) (inv .sound .follows ∙ order-planned q) in
+      let stack-slots = rw (take-take e (q .stacked) (q .stack) (inv .counts .executed)) at (all-take IsSlot e (boardSlots q) (inv .board-slots)) in
+      let order-slots = rw (take-take e (q .ordered) (q .order) (inv .counts .done)) at (all-take IsSlot e (orderSlots q) (inv .order-slots)) in
+      sym (slots-back q (take e (q .stack)) stack-slots)
+      ∙ ap (map slotIn) (sym board ∙ start ∙ order)
+      ∙ slots-back q (take e (q .order)) order-slots
 
   pub order-is : order (bookOf q .plan) ≡ orderOf q
   unfolding bookOf
@@ -80,6 +116,11 @@ module _ (q : State) (inv : Inv q) where
   -- the numbers in the standing order are distinct
   pub order-distinct : (n : Number) → count (hasNumber n) (orderOf q) ≤ 1
   order-distinct n = rw (ap (count (hasNumber n)) (order-planned q)) at (plan-sound .held .distinct n)
+
+  -- the registers are those of the execution
+  pub registers-are : registers (bookOf q .execution) ≡ q .registers
+  unfolding registers bookOf
+  registers-are = ap (λ (l : List Request). replay (operations l)) (stacked-board (boardOf q) (q .executed) (orderOf q)) ∙ sym (inv .log .replayed)
 
   -- ---- steps due
 

@@ -16,12 +16,12 @@ use Rattle.creek.specs.Plan.{order}
 use Rattle.creek.specs.Replies.{noRequest}
 use Rattle.creek.specs.Showing.{registerRefusal, registerShown, requestsShown, commitsShown, undosShown, executionsShown, owedShown}
 use Rattle.creek.specs.Showing.{placeRefusal, placeShown}
-use Rattle.replica.specs.declared.State.{State}
+use Rattle.replica.specs.State.{State}
 use Rattle.replica.specs.Model.{orderSlots, orderOf, planOf, bookOf, model, Inv}
 use Rattle.replica.specs.Shown.{RegisterShown, registersShown, committedShown, PlaceShown}
 use Rattle.replica.proofs.ModelLaws.{requestOf, length-order, order-is, rollback-length, todo-length}
 use Rattle.lists.proofs.StartLaws.{getD-inside}
-use Rattle.replica.proofs.ExecuteLaws.{registers-are}
+use Rattle.replica.proofs.ModelLaws.{registers-are}
 
 module _ (p : State) (inv : Inv p) where
   -- ---- the counts

@@ -1,6 +1,5 @@
 -- The definitions that the contracts cite.
+pub mod State
 pub mod Model
+pub mod Fresh
 pub mod Shown
-pub mod Due
-pub mod Entering
-pub mod Settling

@@ -2,59 +2,35 @@
 use Prim.Native.Nat.{ℕ, _≤_, _<_}
 use mathlib.Core.Path.{_≡_}
 use mathlib.Core.Bool.{true, false}
-use mathlib.Core.List.{List, [], map}
+use mathlib.Core.List.{List, map}
 use lib.ListN.{length, take, drop, getD}
 use lib.Dec.{eqb}
 use Rattle.numbers.specs.declared.Number.{Number}
 use Rattle.request.specs.declared.Operation.{Operation}
 use Rattle.request.specs.declared.Request.{Request}
-use Rattle.numbers.specs.Numbers.{mostPanels, numberOf, clockReading}
+use Rattle.numbers.specs.Numbers.{mostPanels, numberOf}
 use Rattle.sets.specs.Sets.{member}
-use Rattle.request.specs.Refusal as refused
 use Rattle.registers.specs.declared.Saved.{Saved}
 use Rattle.registers.specs.Effect.{response}
-use Rattle.registers.specs.Rollback.{savedOf}
+use Rattle.registers.specs.Rollback.{savedOf, savedIn}
 use Rattle.registers.specs.Replay.{replay}
 use Rattle.lists.specs.Lists.{one, count}
 use Rattle.lists.specs.Places.{All}
 use Rattle.slots.specs.Slots.{IsSlot}
+use Rattle.store.specs.Requests.{requestAt, Long}
 use Rattle.creek.specs.Plan.{Plan, lastEvent, lastClock}
 use Rattle.creek.specs.Book.{Call, Book, isAccepted}
 use Rattle.creek.specs.Execution.{operations}
 use Rattle.creek.specs.Stack.{stacked}
 use Rattle.creek.specs.Calls.{Replica, fresh, freshRefusal, step, answer}
 use Rattle.creek.specs.Sound.{Sound, mostRequests}
-use Rattle.replica.specs.declared.Body.{Body}
-use Rattle.replica.specs.declared.State.{State}
-use Rattle.replica.specs.declared.Opened.{Opened}
-use Rattle.replica.specs.declared.Called.{Called}
+use Rattle.replica.specs.State.{State, Opened, Called}
 
 -- ---- requests at slots
 
--- what an array of bodies has past its end
-abbrev pub noBody : Body
-noBody = record { operation = record { code = 0; r = 0; q = 0; amount = 0 }; strong = false; context = record { words = [] } }
-
-abbrev pub bodyAt : List Body → ℕ → Body
-bodyAt bodies slot = getD bodies slot noBody
-
--- the request of that number and clock reading, of which that body is kept
-abbrev pub withBody : Number → ℕ → Body → Request
-withBody n clock body = record {
-  number = n;
-  clock = clockReading clock;
-  operation = body .operation;
-  strong = body .strong;
-  context = body .context;
-}
-
--- the request at a slot
-unfoldable pub requestAt : List ℕ → List Body → ℕ → Request
-requestAt clocks bodies slot = withBody (numberOf slot) (getD clocks slot 0) (bodyAt bodies slot)
-
 -- the requests at those slots
 abbrev pub requestsAt : State → List ℕ → List Request
-requestsAt q slots = map (requestAt (q .clocks) (q .bodies)) slots
+requestsAt q slots = map (requestAt (q .clocks) (q .operations) (q .contexts)) slots
 
 -- ---- the map
 
@@ -104,9 +80,9 @@ operationAt board k = getD (operations board) k (record { code = 0; r = 0; q = 0
 abbrev pub registersBefore : List Request → ℕ → List ℕ
 registersBefore board k = replay (operations (take k board))
 
--- what an array of saved values has past its end
-abbrev pub noSaved : Saved
-noSaved = record { r = 0; q = 0 }
+-- what is saved at place k on the board
+abbrev pub savedAt : List ℕ → ℕ → Saved
+savedAt saved k = savedIn (getD saved k 0)
 
 -- the counts lie within their arrays
 pub record Counts (q : State) : Type 0 where
@@ -118,8 +94,7 @@ pub record Counts (q : State) : Type 0 where
 
 -- each array is as long as its type says
 pub record Lengths (q : State) : Type 0 where
-  pub clocks : length (q .clocks) ≡ mostRequests
-  pub bodies : length (q .bodies) ≡ mostRequests
+  pub requests : Long (q .clocks) (q .operations) (q .contexts)
   pub order : length (q .order) ≡ mostRequests
   pub stack : length (q .stack) ≡ mostRequests
   pub saved : length (q .saved) ≡ mostRequests
@@ -128,9 +103,9 @@ pub record Lengths (q : State) : Type 0 where
   pub awaiting : length (q .awaiting .words) ≡ mostPanels
 
 -- the registers, and by place on the board what is kept to roll back and to reply
-pub record Log (board : List Request) (registers : List ℕ) (saved : List Saved) (responses : List ℕ) : Type 0 where
+pub record Log (board : List Request) (registers saved responses : List ℕ) : Type 0 where
   pub replayed : registers ≡ replay (operations board)
-  pub restores : (k : ℕ) → k < length board → getD saved k noSaved ≡ savedOf (operationAt board k) (registersBefore board k)
+  pub restores : (k : ℕ) → k < length board → savedAt saved k ≡ savedOf (operationAt board k) (registersBefore board k)
   pub replies : (k : ℕ) → k < length board → getD responses k 0 ≡ response (operationAt board k) (registersBefore board k)
 
 -- what a call may suppose of a state: that it came from fresh and the calls

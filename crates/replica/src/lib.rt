@@ -1,17 +1,16 @@
-// The replica's state and its calls, each equal to its step of `creek`.
+// A panel's memory, and the calls that make and show it, over lent parts of it.
 //
-// A request is kept at its number's slot: its clock in `clocks`, the rest in `bodies`. The standing order is the first `ordered` of
-// `order`, of which the first `committed` are committed. The requests on the board are the first `stacked` of `stack`: the first
-// `executed` of them are the executed list, the rest, last first, the rollback list. So adjusting only lowers `executed`, an undo takes
-// the last off the stack, and an execution puts one on.
+// A request is kept at its number's slot in `clocks`, `operations` and `contexts`. The standing order is the first `ordered` of `order`, of
+// which the first `committed` are committed. The requests on the board are the first `stacked` of `stack`: the first `executed` of them
+// are the executed list, the rest, last first, the rollback list. By place on the board `saved` has what to roll back from and `responses`
+// the response. So adjusting only lowers `executed`, an undo takes the last off the stack, and an execution puts one on.
 //
-// Fresh is here, invoke and deliver in `entering`, commit in `settling`, undo and execute in `steps`, all due steps at once in `due`,
-// the showing calls in `showing`. `Model` of `specs/` maps a state to a replica of `creek`.
-pub mod due;
-pub mod entering;
-pub mod settling;
+// A call is given the core by value and lent the arrays that it uses, no others. Its contract holds of every panel with these parts that
+// came from fresh and the calls. The steps are not counted here: a call says how many it did, and whoever has the counters counts them.
+//
+// Fresh is here, the showing calls in `showing`; invoke and deliver are the crate `entering`, commit is `settling`, undo, execute and all due
+// steps at once are `steps`. `State` of `specs/` is the memory as one record, `Model` maps it to a replica of `creek`.
 pub mod showing;
-pub mod steps;
 
 use counters::Counters;
 use creek::Answer;
@@ -20,74 +19,41 @@ use numbers::Clock;
 use numbers::EventNo;
 use numbers::Number;
 use numbers::PanelNo;
-use registers::Saved;
 use request::Operation;
 use request::Request;
 use request::refusal;
-use sets::Context;
 ghost use mathlib.Core.Path.{_≡_};
+ghost use Prim.Native.Nat.{min};
 ghost use Rattle.numbers.specs.Numbers.{noNumber};
 ghost use Rattle.creek.specs.Calls.{badShop};
 ghost use Rattle.creek.specs.Replies.{noRequest, refusedWith, reply as replyOf};
-ghost use Rattle.replica.specs.Model.{withBody, GoodShop, Empty, Fresh};
+ghost use Rattle.replica.specs.State.{firstCore};
+ghost use Rattle.replica.specs.Fresh.{FreshKept};
 
-// What is kept of a request beside its number and its clock reading.
-pub struct Body {
-    operation: Operation,
-    strong: bool,
-    context: Context,
-}
-
-// A panel's state; only this crate makes one.
-pub struct State {
-    panels: u8,
-    own: PanelNo,
-    held: Context,
-    known: Context,
-    awaiting: Context,
-    events: u8,
-    clock: Clock,
-    clocks: [u32; 512],
-    bodies: [Body; 512],
-    order: [u16; 512],
-    committed: usize,
-    ordered: usize,
-    stack: [u16; 512],
-    executed: usize,
-    stacked: usize,
-    registers: [u32; 64],
-    saved: [Saved; 512],
-    responses: [u32; 512],
-    commits: u32,
-    counters: Counters,
+// The small part of a panel's memory, which the calls take and return by value.
+pub struct Core {
+    pub panels: u8,
+    pub own: PanelNo,
+    pub events: u8,
+    pub clock: Clock,
+    pub committed: usize,
+    pub ordered: usize,
+    pub executed: usize,
+    pub stacked: usize,
+    pub commits: u32,
 }
 
 // What fresh returns.
-pub struct Opened {
+pub struct FreshResult {
+    pub core: Core,
+    pub counters: Counters,
     pub refusal: u8,
-    pub state: State,
 }
 
-// What a call returns: the state after it and its answer. With the state first, a refused call copies it straight to the result.
-pub struct Called {
-    pub state: State,
+// What a call returns: the core after it and its answer.
+pub struct CallResult {
+    pub core: Core,
     pub answer: Answer,
-}
-
-// A reply that fell due: its request's number, the response and the mark.
-pub struct DueReply {
-    pub number: Number,
-    pub response: u32,
-    pub mark: u8,
-}
-
-// What run_due returns: the steps done, the replies that fell due, of which there are `count`, and the state after it.
-pub struct Ran {
-    pub undos: u32,
-    pub executions: u32,
-    pub count: usize,
-    pub replies: [DueReply; 64],
-    pub state: State,
 }
 
 // A register's value, or refusal 3.
@@ -102,21 +68,54 @@ pub struct PlacedRequest {
     pub request: Request,
 }
 
-// A panel with empty lists and a zero board; a refused one is a one-panel shop, panel 0.
-pub fn fresh(panels: u8, own: PanelNo) -> Opened
-    ensures { λ r. ⌜ Fresh panels (own .0) r ⌝ }
+// Makes the lent arrays those of a panel with empty lists and a zero board; a refused one is a one-panel shop, panel 0.
+pub fn fresh(
+    held: &mut [u64; 8],
+    known: &mut [u64; 8],
+    awaiting: &mut [u64; 8],
+    clocks: &mut [u32; 512],
+    operations: &mut [u64; 512],
+    contexts: &mut [u64; 4096],
+    order: &mut [u16; 512],
+    stack: &mut [u16; 512],
+    registers: &mut [u32; 64],
+    saved: &mut [u64; 512],
+    responses: &mut [u32; 512],
+    panels: u8,
+    own: PanelNo,
+) -> FreshResult
+    ensures { λ r. ⌜ FreshKept panels (own .0) (now (held .exit)) (now (known .exit)) (now (awaiting .exit)) (now (clocks .exit))
+        (now (operations .exit)) (now (contexts .exit)) (now (order .exit)) (now (stack .exit)) (now (registers .exit)) (now (saved .exit))
+        (now (responses .exit)) r ⌝ }
 {
+    *held = [0u64; 8];
+    *known = [0u64; 8];
+    *awaiting = [0u64; 8];
+    *clocks = [0u32; 512];
+    *operations = [0u64; 512];
+    *contexts = [0u64; 4096];
+    *order = [0u16; 512];
+    *stack = [0u16; 512];
+    *registers = [0u32; 64];
+    *saved = [0u64; 512];
+    *responses = [0u32; 512];
+    let counters = Counters {
+        undos: 0,
+        executions: 0,
+    };
     if bad_shop(panels, own) {
-        let state = empty(1, PanelNo(0));
-        return Opened {
+        let core = first_core(1, PanelNo(0));
+        return FreshResult {
+            core,
+            counters,
             refusal: refusal::BAD_SHOP,
-            state,
         };
     }
-    let state = empty(panels, own);
-    Opened {
+    let core = first_core(panels, own);
+    FreshResult {
+        core,
+        counters,
         refusal: refusal::ACCEPTED,
-        state,
     }
 }
 
@@ -127,54 +126,35 @@ fn bad_shop(panels: u8, own: PanelNo) -> bool
     !((1 <= panels) & (panels <= numbers::MOST_PANELS)) | !(own.0 < panels)
 }
 
-// The state of a shift's first moment.
-fn empty(panels: u8, own: PanelNo) -> State
-    requires { ⌜ GoodShop panels (own .0) ⌝ }
-    ensures { λ q. ⌜ Empty panels (own .0) q ⌝ }
+// The core of a shift's first moment.
+fn first_core(panels: u8, own: PanelNo) -> Core
+    ensures { λ c. ⌜ c ≡ firstCore panels own ⌝ }
 {
-    let none = sets::empty();
-    let nothing = Operation {
-        code: 0,
-        r: 0,
-        q: 0,
-        amount: 0,
-    };
-    let body = Body {
-        operation: nothing,
-        strong: false,
-        context: none,
-    };
-    let board = registers::zero_board();
-    let saved = registers::save(&board, nothing);
-    State {
+    Core {
         panels,
         own,
-        held: none,
-        known: none,
-        awaiting: none,
         events: 0,
         clock: Clock(0),
-        clocks: [0u32; 512],
-        bodies: [body; 512],
-        order: [0u16; 512],
         committed: 0,
         ordered: 0,
-        stack: [0u16; 512],
         executed: 0,
         stacked: 0,
-        registers: board,
-        saved: [saved; 512],
-        responses: [0u32; 512],
         commits: 0,
-        counters: Counters {
-            undos: 0,
-            executions: 0,
-        },
     }
 }
 
+// The lower of two numbers.
+pub fn lower(a: usize, b: usize) -> usize
+    ensures { λ r. ⌜ r ≡ min a b ⌝ }
+{
+    if a < b {
+        return a;
+    }
+    b
+}
+
 // The request of zeros, which stands where none is to be spread.
-fn no_request() -> Request
+pub fn no_request() -> Request
     ensures { λ x. ⌜ x ≡ noRequest ⌝ }
 {
     Request {
@@ -194,23 +174,8 @@ fn no_request() -> Request
     }
 }
 
-// The request of that number and clock reading, of which that body is kept.
-fn with_body(number: Number, clock: u32, body: Body) -> Request
-    ensures { λ x. ⌜ x ≡ withBody number clock body ⌝ }
-{
-    let operation = body.operation;
-    let context = body.context;
-    Request {
-        number,
-        clock: Clock(clock),
-        operation,
-        strong: body.strong,
-        context,
-    }
-}
-
 // The answer of a refused call that names no request.
-fn refused(word: u8) -> Answer
+pub fn refused(word: u8) -> Answer
     ensures { λ a. ⌜ a ≡ refusedWith word noNumber ⌝ }
 {
     Answer {
@@ -226,7 +191,7 @@ fn refused(word: u8) -> Answer
 }
 
 // The answer of an accepted call about n.
-fn reply(n: Number, response: u32, mark: u8) -> Answer
+pub fn reply(n: Number, response: u32, mark: u8) -> Answer
     ensures { λ a. ⌜ a ≡ replyOf n response mark ⌝ }
 {
     Answer {

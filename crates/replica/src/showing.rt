@@ -1,107 +1,96 @@
-// The showing calls, which change nothing.
+// The showing calls, which change nothing. What is shown of the core and of the counters is shown of every panel that has them.
+use super::Core;
 use super::PlacedRequest;
 use super::RegisterValue;
-use super::State;
 use super::no_request;
-use super::with_body;
-use request::operations;
+use counters::Counters;
+use request::operations as operation;
 use request::refusal;
-ghost use mathlib.Core.Path.{_≡_};
+use store::requests as stored;
 ghost use Rattle.creek.specs.Showing.{requestsShown, commitsShown, undosShown, executionsShown, owedShown};
-ghost use Rattle.replica.specs.Model.{Inv, model};
-ghost use Rattle.replica.specs.Shown.{RegisterShown, registersShown, committedShown, PlaceShown};
+ghost use Rattle.replica.specs.Shown.{committedShown, CoreAsks, CoreShows, CountersShow, RegisterKept, PlaceAsks, PlaceKept};
 
 // The value of register k.
-pub fn register(p: State, k: u8) -> RegisterValue
-    requires { ⌜ Inv p ⌝ }
-    ensures { λ r. ⌜ RegisterShown p k r ⌝ }
+pub fn register(registers: &[u32; 64], k: u8) -> RegisterValue
+    ensures { λ r. ⌜ RegisterKept (now (registers .entry)) k r ⌝ }
 {
-    if operations::LAST_REGISTER < k {
+    if operation::LAST_REGISTER < k {
         return RegisterValue {
             refusal: refusal::BAD_OPERATION,
             value: 0,
         };
     }
-    let value = p.registers[k as usize];
+    let value = registers[k as usize];
     RegisterValue {
         refusal: refusal::ACCEPTED,
         value,
     }
 }
 
-// The values of all registers.
-pub fn registers(p: State) -> [u32; 64]
-    requires { ⌜ Inv p ⌝ }
-    ensures { λ values. ⌜ values ≡ registersShown (model p) ⌝ }
-{
-    p.registers
-}
-
 // The count of accepted requests.
-pub fn requests(p: State) -> usize
-    requires { ⌜ Inv p ⌝ }
-    ensures { λ n. ⌜ n ≡ requestsShown (model p) ⌝ }
+pub fn requests(core: Core) -> usize
+    ensures { λ n. ⌜ CoreShows core requestsShown n ⌝ }
 {
-    p.ordered
+    core.ordered
 }
 
 // The length of the settled list.
-pub fn committed(p: State) -> usize
-    requires { ⌜ Inv p ⌝ }
-    ensures { λ n. ⌜ n ≡ committedShown (model p) ⌝ }
+pub fn committed(core: Core) -> usize
+    ensures { λ n. ⌜ CoreShows core committedShown n ⌝ }
 {
-    p.committed
+    core.committed
 }
 
 // The count of accepted settlements.
-pub fn commits(p: State) -> u32
-    requires { ⌜ Inv p ⌝ }
-    ensures { λ n. ⌜ n ≡ commitsShown (model p) ⌝ }
+pub fn commits(core: Core) -> u32
+    ensures { λ n. ⌜ CoreShows core commitsShown n ⌝ }
 {
-    p.commits
+    core.commits
 }
 
 // The undos done.
-pub fn undos(p: State) -> u32
-    requires { ⌜ Inv p ⌝ }
-    ensures { λ n. ⌜ n ≡ undosShown (model p) ⌝ }
+pub fn undos(counters: Counters) -> u32
+    ensures { λ n. ⌜ CountersShow counters undosShown n ⌝ }
 {
-    p.counters.undos
+    counters.undos
 }
 
 // The executions done.
-pub fn executions(p: State) -> u32
-    requires { ⌜ Inv p ⌝ }
-    ensures { λ n. ⌜ n ≡ executionsShown (model p) ⌝ }
+pub fn executions(counters: Counters) -> u32
+    ensures { λ n. ⌜ CountersShow counters executionsShown n ⌝ }
 {
-    p.counters.executions
+    counters.executions
 }
 
 // The steps owed.
-pub fn owed(p: State) -> usize
-    requires { ⌜ Inv p ⌝ }
-    ensures { λ n. ⌜ n ≡ owedShown (model p) ⌝ }
+pub fn owed(core: Core) -> usize
+    requires { ⌜ CoreAsks core ⌝ }
+    ensures { λ n. ⌜ CoreShows core owedShown n ⌝ }
 {
-    (p.stacked - p.executed) + (p.ordered - p.executed)
+    (core.stacked - core.executed) + (core.ordered - core.executed)
 }
 
 // The request at a place of the standing order, places counted from 1.
-pub fn at_place(p: State, place: usize) -> PlacedRequest
-    requires { ⌜ Inv p ⌝ }
-    ensures { λ r. ⌜ PlaceShown p place r ⌝ }
+pub fn at_place<'a>(
+    core: Core,
+    clocks: &'a [u32; 512],
+    operations: &'a [u64; 512],
+    contexts: &'a [u64; 4096],
+    order: &'a [u16; 512],
+    place: usize,
+) -> PlacedRequest
+    requires { ⌜ PlaceAsks core (now clocks) (now operations) (now contexts) (now order) ⌝ }
+    ensures { λ r. ⌜ PlaceKept core (now (clocks .entry)) (now (operations .entry)) (now (contexts .entry)) (now (order .entry)) place r ⌝ }
 {
-    if (place == 0) | (p.ordered < place) {
+    if (place == 0) | (core.ordered < place) {
         let request = no_request();
         return PlacedRequest {
             refusal: refusal::NOT_HERE,
             request,
         };
     }
-    let slot = p.order[place - 1];
-    let clock = p.clocks[slot as usize];
-    let body = p.bodies[slot as usize];
-    let number = numbers::number_of(slot);
-    let request = with_body(number, clock, body);
+    let slot = order[place - 1];
+    let request = stored::request_at(clocks, operations, contexts, slot);
     PlacedRequest {
         refusal: refusal::ACCEPTED,
         request,

@@ -1,5 +1,4 @@
 -- The laws behind `print`, from what is found in the bytes to the whole printout, and document 01's worked printout.
 pub mod FoundLaws
-pub mod UndoLaws
 pub mod PuttingLaws
 pub mod Worked

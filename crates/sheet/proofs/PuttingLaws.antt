@@ -1,5 +1,5 @@
--- Laws of hearing and putting, in this order: what an answer of the reader stands for; a message that is taken in; lines; the loop over
--- all that is found; the whole printout.
+-- Laws of hearing and putting, in this order: what an answer of the reader stands for; the call that a message makes; a message that is
+-- taken in; lines; the loop over all that is found; the whole printout.
 use Prim.Native.Nat.{ℕ, suc, _+_, _*_, _-_, _≤_, _<_, _^_}
 use mathlib.Core.Path.{_≡_, refl, sym, ap, _∙_, subst}
 use mathlib.Core.Bool.{Bool, true, false}
@@ -19,13 +19,17 @@ use Rattle.creek.specs.declared.Answer.{Answer as Reply}
 use Rattle.request.specs.Operations.{lastRegister}
 use Rattle.registers.proofs.ReplayLaws.{replay-length}
 use Rattle.creek.specs.Execution.{registers, board, operations}
+use Rattle.creek.specs.Book.{Call}
 use Rattle.creek.specs.Calls.{Replica, badShop, freshRefusal, fresh, step, answer}
 use Rattle.creek.specs.Showing.{undosShown, executionsShown}
-use Rattle.replica.specs.declared.State.{State}
-use Rattle.replica.specs.declared.Called.{Called}
-use Rattle.replica.specs.declared.Ran.{Ran}
+use Rattle.replica.specs.declared.Core.{Core}
+use Rattle.replica.specs.declared.CallResult.{CallResult}
+use Rattle.replica.specs.State.{State, Called}
+use Rattle.due.specs.Due.{Ran}
 use Rattle.replica.specs.Model.{model, Inv, Kept}
-use Rattle.replica.specs.Due.{RunDue}
+use Rattle.entering.specs.Entering.{DeliverKept}
+use Rattle.settling.specs.Settling.{CommitKept}
+use Rattle.due.specs.Due.{RunDue}
 use Rattle.replica.specs.Shown.{registersShown, committedShown}
 use Rattle.wire.specs.declared.Message.{Message}
 use Rattle.wire.specs.declared.Reading.{Reading}
@@ -41,9 +45,8 @@ use Rattle.sheet.specs.declared.Heard.{Heard}
 use Rattle.sheet.specs.declared.Ended.{Ended}
 use Rattle.sheet.specs.Sheet.{callOf, idled, after, afterAll, refusalIn, numberIn, lineOfMessage, lineFor, foundFrom, messageLines}
 use Rattle.sheet.specs.Sheet.{shopBytes, leastMessage, mostMessages, mostInput, closing, printoutOf, printout}
-use Rattle.sheet.specs.Putting.{takenOf, Stands, HeardOf, TakenIn, HeardAs, LinePut, AllPut}
+use Rattle.sheet.specs.Putting.{takenOf, callParts, CallKept, Stands, HeardOf, TakenIn, HeardAs, LinePut, AllPut}
 use Rattle.sheet.proofs.FoundLaws.{bytesOf, Takes, whole, all, takes, taken-within, one-found, none-found}
-use Rattle.sheet.proofs.UndoLaws.{undos-grow}
 
 -- ---- what an answer stands for
 
@@ -74,52 +77,73 @@ module _ (r : Reading) (P : Outcome → Type 0) where
   refused-only w e p (refused v) f =
       subst (λ (z : ℕ). P (refused z)) (ap refusalOf (sym e ∙ ap (λ (x : Reading). x .answer) f)) p
 
+-- ---- the call that a message makes
+
+module _ {core : Core} {held known awaiting clocks operations contexts order stack responses : List ℕ} (m : Message) {r : CallResult} where
+  pub call-settled : m .settles ≡ true → {known′ awaiting′ order′ : List ℕ}
+      → CommitKept core held known awaiting operations contexts order stack responses (m .request .number) known′ awaiting′ order′ r
+      → CallKept core held known awaiting clocks operations contexts order stack responses (said m)
+      held known′ awaiting′ clocks operations contexts order′ r
+  unfolding callOf
+  call-settled e k = record {
+    kept = λ p inv.
+        rw (said-settlement m e)
+        (k .kept (callParts p core held known awaiting clocks operations contexts order stack responses) inv);
+  }
+
+  pub call-heard : m .settles ≡ false → {held′ known′ clocks′ operations′ contexts′ order′ : List ℕ}
+      → DeliverKept core held known clocks operations contexts order stack (m .request) held′ known′ clocks′ operations′ contexts′ order′ r
+      → CallKept core held known awaiting clocks operations contexts order stack responses (said m)
+      held′ known′ awaiting clocks′ operations′ contexts′ order′ r
+  unfolding callOf
+  call-heard e k = record {
+    kept = λ p inv.
+        rw (said-request m e)
+        (k .kept (callParts p core held known awaiting clocks operations contexts order stack responses) inv);
+  }
+
 -- ---- a message is taken in
 
-pub taken-in : (p : State) (m : Message) (c : Called) → Kept p (callOf (said m)) c → (ran : Ran) → RunDue (c .state) ran
-    → (before now : ℕ) → before ≡ undosShown (model p) → now ≡ undosShown (model (ran .state))
-    → TakenIn p (said m) (record { state = ran .state; refusal = c .answer .refusal; undone = now - before })
-unfolding after refusalIn
-taken-in p m c kept ran due before now eb en =
-    let r = model p in
-    let done : model (ran .state) ≡ idled (step r (callOf (said m))) = due .state ∙ ap idled (kept .state) in
-    record {
-      heard = λ n. record {
-        panel = record { state = done; invariant = due .invariant };
-        refusal = ap (λ (a : Reply). a .refusal) (kept .answer);
-        undone = ap (λ (k : ℕ). now - k) eb ∙ ap (λ (k : ℕ). k - undosShown r) (en ∙ ap undosShown done);
-      };
-    }
+-- the state that a call led to
+abbrev pub stateAfter : {p : State} {c : Call} {r : Called} → Kept p c r → State
+stateAfter {r = r} kept = r .state
 
--- undos done do not fall
-pub undos-rise : (p : State) (m : Message) (c : Called) → Kept p (callOf (said m)) c → (ran : Ran) → RunDue (c .state) ran
-    → undosShown (model p) ≤ undosShown (model (ran .state))
-undos-rise p m c kept ran due =
-    let done : undosShown (model (ran .state)) ≡ undosShown (idled (step (model p) (callOf (said m)))) =
-    ap undosShown (due .state ∙ ap idled (kept .state)) in
-    omega (arith, done, undos-grow (model p) (callOf (said m)))
+module _ (p : State) (m : BusMessage) (c : Called) (kept : Kept p (callOf m) c) (ran : Ran) (due : RunDue (c .state) ran) where
+  done : model (ran .state) ≡ idled (step (model p) (callOf m))
+  done = due .state ∙ ap idled (kept .state)
+
+  -- the undos that were counted are those done since the line before
+  pub taken-in : ran .state .counters .undos ≡ p .counters .undos + ran .undos → (h : Heard) → h .refusal ≡ c .answer .refusal
+      → h .undone ≡ ran .undos → TakenIn p m (ran .state) h
+  unfolding after refusalIn model
+  taken-in counted h word undone = record {
+    heard = λ n. record {
+      panel = record { state = done; invariant = due .invariant };
+      refusal = word ∙ ap (λ (a : Reply). a .refusal) (kept .answer);
+      undone = omega (arith, undone, counted, ap undosShown done);
+    };
+  }
 
 -- what cannot be read leaves the panel alone
 module _ (p : State) (r : Reading) (inv : Inv p) where
   alone : Stands p (model p)
   alone = record { state = refl; invariant = inv }
 
-  pub heard-end : r .answer ≡ End → HeardAs p r (record { state = p; refusal = refusal.accepted; undone = 0 })
+  pub heard-end : r .answer ≡ End → (h : Heard) → h .refusal ≡ refusal.accepted → h .undone ≡ 0 → HeardAs p r p h
   unfolding after refusalIn
-  heard-end f = record {
-    heard = end-only r (λ o. HeardOf (model p) o (record { state = p; refusal = refusal.accepted; undone = 0 })) f
-        (record { panel = alone; refusal = refl; undone = omega arith });
+  heard-end f h word none = record {
+    heard = end-only r (λ o. HeardOf (model p) o p h) f (record { panel = alone; refusal = word; undone = omega (arith, none) });
   }
 
-  pub heard-refused : (w : ℕ) → r .answer ≡ Refused w → HeardAs p r (record { state = p; refusal = w; undone = 0 })
+  pub heard-refused : (w : ℕ) → r .answer ≡ Refused w → (h : Heard) → h .refusal ≡ w → h .undone ≡ 0 → HeardAs p r p h
   unfolding after refusalIn
-  heard-refused w f = record {
-    heard = refused-only r (λ o. HeardOf (model p) o (record { state = p; refusal = w; undone = 0 })) w f
-        (record { panel = alone; refusal = refl; undone = omega arith });
+  heard-refused w f h word none = record {
+    heard = refused-only r (λ o. HeardOf (model p) o p h) w f (record { panel = alone; refusal = word; undone = omega (arith, none) });
   }
 
-pub heard-message : (p : State) (r : Reading) (h : Heard) → r .answer ≡ aMessage → TakenIn p (said (r .message)) h → HeardAs p r h
-heard-message p r h f t = record { heard = message-only r (λ o. HeardOf (model p) o h) f (t .heard) }
+pub heard-message : (p : State) (r : Reading) (q : State) (h : Heard) → r .answer ≡ aMessage → TakenIn p (said (r .message)) q h
+    → HeardAs p r q h
+heard-message p r q h f t = record { heard = message-only r (λ o. HeardOf (model p) o q h) f (t .heard) }
 
 -- ---- lines
 
@@ -200,9 +224,9 @@ module _ (r : Replica) (s out : List ℕ) (from : ℕ) (out₁ : List ℕ) (p : 
       let pace = put .whole-so-far below in
       (omega (arith, put .few, pace, put .lines .size), omega (arith, pace))
 
-  module _ (x : Reading) (ex : x ≡ answered (readAt s at)) (h : Heard) (heard : HeardAs p x h)
+  module _ (x : Reading) (ex : x ≡ answered (readAt s at)) (q : State) (h : Heard) (heard : HeardAs p x q h)
       (n : ℕ) (en : n ≡ takenOf x (length s - at)) where
-    st : HeardOf (model p) (readAt s at) h
+    st : HeardOf (model p) (readAt s at) q h
     st = heard .heard (readAt s at) ex
 
     n-is : n ≡ bytesOf (readAt s at) (length s - at)
@@ -212,7 +236,7 @@ module _ (r : Replica) (s out : List ℕ) (from : ℕ) (out₁ : List ℕ) (p : 
     n-within = rw n-is (taken-within (length s - at) _ (takes s at below) (omega arith))
 
     now-next : Left out from (messageLines 1 r (foundFrom s shopBytes)) out₁ behind
-        (lineFor place (readAt s at) (h .refusal) (h .undone) ++ messageLines (place + 1) (model (h .state)) (foundFrom s (at + n)))
+        (lineFor place (readAt s at) (h .refusal) (h .undone) ++ messageLines (place + 1) (model q) (foundFrom s (at + n)))
     unfolding messageLines
     now-next = rw (add-one, st .panel .state, st .refusal, st .undone, n-is) (rw (one-found s at below) at (put .lines))
 
@@ -223,7 +247,7 @@ module _ (r : Replica) (s out : List ℕ) (from : ℕ) (out₁ : List ℕ) (p : 
     paced-on (all e) p = (omega arith, λ q. absurd (omega arith))
 
     pub put-step : (out₂ : List ℕ) (behind₂ : ℕ) → LinePut place x (h .refusal) (h .undone) out₁ behind out₂ behind₂
-        → Putting r s out from out₂ (h .state) (at + n) behind₂ (place + 1)
+        → Putting r s out from out₂ q (at + n) behind₂ (place + 1)
     unfolding afterAll
     put-step out₂ behind₂ w =
         let v = n-within in
@@ -232,21 +256,21 @@ module _ (r : Replica) (s out : List ℕ) (from : ℕ) (out₁ : List ℕ) (p : 
           inside = omega (arith, v .1);
           invariant = st .panel .invariant;
           state = rw (st .panel .state, n-is) (rw (one-found s at below) at (put .state));
-          lines = left-step (messageLines (place + 1) (model (h .state)) (foundFrom s (at + n))) (w .written (readAt s at) ex) now-next;
+          lines = left-step (messageLines (place + 1) (model q) (foundFrom s (at + n))) (w .written (readAt s at) ex) now-next;
           few = omega (arith, put .few, w .few);
           paced = pace .0;
           whole-so-far = pace .1;
         }
 
 pub put-end : (r : Replica) (s out : List ℕ) (from : ℕ) (out₁ : List ℕ) (p : State) (at behind place : ℕ) → length s ≤ at
-    → length s ≤ mostInput → Putting r s out from out₁ p at behind place → AllPut r s out from out₁ (record { state = p; behind = behind })
+    → length s ≤ mostInput → Putting r s out from out₁ p at behind place → (e : Ended) → e .behind ≡ behind → AllPut r s out from out₁ p e
 unfolding afterAll messageLines
-put-end r s out from out₁ p at behind place h low put =
+put-end r s out from out₁ p at behind place h low put e is =
     let state : model p ≡ afterAll r (foundFrom s shopBytes) = rw (none-found s at h) at (put .state) in
     record {
       panel = record { state = state; invariant = put .invariant };
-      lines = left-end (rw (none-found s at h) at (put .lines));
-      few = omega (arith, put .few, put .paced, put .inside);
+      lines = rw is (left-end (rw (none-found s at h) at (put .lines)));
+      few = omega (arith, is, put .few, put .paced, put .inside);
     }
 
 -- ---- the whole printout
@@ -278,6 +302,10 @@ closing-is r settled unsettled undone carried values e f g h k = rw (e, f, g, h,
 
 -- ---- the shop
 
+-- the state that stands for a replica
+abbrev pub standing : {q : State} {r : Replica} → Stands q r → State
+standing {q = q} stands = q
+
 fresh-by : (panels own w : ℕ) (v : Bool) → badShop panels own ≡ v → w ≡ freshRefusal panels own → (w ≡ refusal.accepted → ⊥) → v ≡ true
 unfolding freshRefusal
 fresh-by panels own w true e f h = refl
@@ -299,14 +327,14 @@ fresh-good panels own w f h = opened-by panels own w (badShop panels own) refl f
 -- the three parts of a good shop's printout, one behind the other
 pub printed : (s : List ℕ) → shopBytes ≤ length s → badShop (getD s 0 0) (getD s 1 0) ≡ false
     → (r : Replica) → r ≡ fresh (getD s 0 0) (getD s 1 0)
-    → (out out₁ out₂ out₃ : List ℕ) (at₁ at₃ : ℕ) (e : Ended)
-    → Written out 0 (boardLine (getD s 0 0) (getD s 1 0)) out₁ at₁ → AllPut r s out₁ at₁ out₂ e
-    → Written out₂ (e .behind) (closing (model (e .state))) out₃ at₃ → Written out 0 (printout s) out₃ at₃
-printed s h good r er out out₁ out₂ out₃ at₁ at₃ e first put last =
+    → (out out₁ out₂ out₃ : List ℕ) (at₁ at₃ : ℕ) (q : State) (e : Ended)
+    → Written out 0 (boardLine (getD s 0 0) (getD s 1 0)) out₁ at₁ → AllPut r s out₁ at₁ out₂ q e
+    → Written out₂ (e .behind) (closing (model q)) out₃ at₃ → Written out 0 (printout s) out₃ at₃
+printed s h good r er out out₁ out₂ out₃ at₁ at₃ q e first put last =
     let found = foundFrom s shopBytes in
     let lines : Written out₁ at₁ (messageLines 1 (fresh (getD s 0 0) (getD s 1 0)) found) out₂ (e .behind) =
-    subst (λ (q : Replica). Written out₁ at₁ (messageLines 1 q found) out₂ (e .behind)) er (put .lines) in
-    let end-is : model (e .state) ≡ afterAll (fresh (getD s 0 0) (getD s 1 0)) found =
-    put .panel .state ∙ ap (λ (q : Replica). afterAll q found) er in
-    let closed = subst (λ (q : Replica). Written out₂ (e .behind) (closing q) out₃ at₃) end-is last in
+    subst (λ (x : Replica). Written out₁ at₁ (messageLines 1 x found) out₂ (e .behind)) er (put .lines) in
+    let end-is : model q ≡ afterAll (fresh (getD s 0 0) (getD s 1 0)) found =
+    put .panel .state ∙ ap (λ (x : Replica). afterAll x found) er in
+    let closed = subst (λ (x : Replica). Written out₂ (e .behind) (closing x) out₃ at₃) end-is last in
     rw (printout-good s h good) (then first (then lines closed))

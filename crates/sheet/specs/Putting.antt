@@ -1,13 +1,17 @@
 -- What the functions that put the printout promise.
 use Prim.Native.Nat.{ℕ, _+_, _*_, _≤_, _<_}
 use mathlib.Core.Path.{_≡_}
+use mathlib.Core.Bool.{false}
 use mathlib.Core.List.{List}
-use lib.ListN.{length, take}
+use lib.ListN.{length, take, getD}
 use Rattle.text.specs.Placed.{Written}
 use Rattle.report.specs.Sizes.{mostMessageBytes, mostTotalsBytes, mostRegistersBytes}
-use Rattle.creek.specs.Calls.{Replica}
-use Rattle.replica.specs.declared.State.{State}
-use Rattle.replica.specs.Model.{model, Inv}
+use Rattle.counters.specs.declared.Counters.{Counters}
+use Rattle.creek.specs.Calls.{Replica, badShop, fresh}
+use Rattle.replica.specs.declared.Core.{Core}
+use Rattle.replica.specs.declared.CallResult.{CallResult}
+use Rattle.replica.specs.State.{State, packed}
+use Rattle.replica.specs.Model.{model, Inv, Kept}
 use Rattle.wire.specs.declared.Reading.{Reading}
 use Rattle.wire.specs.declared.Answer.{Answer}
 use Rattle.wire.specs.declared.Answer.the-variants.{Message as aMessage, End, Refused}
@@ -15,8 +19,8 @@ use Rattle.wire.specs.Message.{BusMessage}
 use Rattle.wire.specs.Reader.{Outcome, message, answered}
 use Rattle.sheet.specs.declared.Heard.{Heard}
 use Rattle.sheet.specs.declared.Ended.{Ended}
-use Rattle.sheet.specs.Sheet.{after, afterAll, refusalIn, undoneIn, lineOfMessage, lineFor, foundFrom, shopBytes, messageLines}
-use Rattle.sheet.specs.Sheet.{closing, mostMessages, mostInput, mostPrinted, printout}
+use Rattle.sheet.specs.Sheet.{callOf, after, afterAll, refusalIn, undoneIn, lineOfMessage, lineFor, foundFrom, shopBytes}
+use Rattle.sheet.specs.Sheet.{messageLines, closing, mostMessages, mostInput, mostPrinted, printout}
 
 -- the bytes that an answer passes over where so many are left
 abbrev pub takenBy : Answer → ℕ → ℕ → ℕ
@@ -32,19 +36,42 @@ pub record Stands (q : State) (r : Replica) : Type 0 where
   pub state : model q ≡ r
   pub invariant : Inv q
 
--- what was found, o, was heard where r stood
-pub record HeardOf (r : Replica) (o : Outcome) (h : Heard) : Type 0 where
-  pub panel : Stands (h .state) (after r o)
+-- ---- hearing
+
+-- p with that core and the parts that a call is lent
+abbrev pub callParts : State → Core → (held known awaiting clocks operations contexts order stack responses : List ℕ) → State
+callParts p core held known awaiting clocks operations contexts order stack responses =
+    packed core (p .counters) held known awaiting clocks operations contexts order stack (p .registers) (p .saved) responses
+
+-- they are the parts of a panel that came from fresh and the calls
+pub record CallAsks (core : Core) (held known awaiting clocks operations contexts order stack responses : List ℕ) : Type 0 where
+  pub panel : State
+  pub invariant : Inv (callParts panel core held known awaiting clocks operations contexts order stack responses)
+
+-- of every such panel: the call that the message m makes was answered and carried out as `creek` says
+pub record CallKept (core : Core) (held known awaiting clocks operations contexts order stack responses : List ℕ) (m : BusMessage)
+    (held′ known′ awaiting′ clocks′ operations′ contexts′ order′ : List ℕ) (r : CallResult) : Type 0 where
+  pub kept : (p : State) → Inv (callParts p core held known awaiting clocks operations contexts order stack responses)
+      → Kept (callParts p core held known awaiting clocks operations contexts order stack responses) (callOf m) (record {
+        answer = r .answer;
+        state = callParts p (r .core) held′ known′ awaiting′ clocks′ operations′ contexts′ order′ stack responses;
+      })
+
+-- what was found, o, was heard where r stood, and q is the panel then
+pub record HeardOf (r : Replica) (o : Outcome) (q : State) (h : Heard) : Type 0 where
+  pub panel : Stands q (after r o)
   pub refusal : h .refusal ≡ refusalIn r o
   pub undone : h .undone ≡ undoneIn r o
 
--- the message m, of whatever size, was heard by p
-pub record TakenIn (p : State) (m : BusMessage) (h : Heard) : Type 0 where
-  pub heard : (n : ℕ) → HeardOf (model p) (message m n) h
+-- the message m, of whatever size, was heard by p, which is q then
+pub record TakenIn (p : State) (m : BusMessage) (q : State) (h : Heard) : Type 0 where
+  pub heard : (n : ℕ) → HeardOf (model p) (message m n) q h
 
--- what was answered by the reader was heard by p
-pub record HeardAs (p : State) (r : Reading) (h : Heard) : Type 0 where
-  pub heard : (o : Outcome) → r ≡ answered o → HeardOf (model p) o h
+-- what was answered by the reader was heard by p, which is q then
+pub record HeardAs (p : State) (r : Reading) (q : State) (h : Heard) : Type 0 where
+  pub heard : (o : Outcome) → r ≡ answered o → HeardOf (model p) o q h
+
+-- ---- putting
 
 -- the line of a message was put
 pub record MessageLinePut (place : ℕ) (m : BusMessage) (word undone : ℕ) (out : List ℕ) (at : ℕ) (out′ : List ℕ) (behind : ℕ) : Type 0 where
@@ -56,16 +83,34 @@ pub record LinePut (place : ℕ) (r : Reading) (word undone : ℕ) (out : List �
   pub written : (o : Outcome) → r ≡ answered o → Written out at (lineFor place o word undone) out′ behind
   pub few : behind ≤ at + mostMessageBytes
 
--- all that is found in the input was heard, beginning at r, and its lines were put
-pub record AllPut (r : Replica) (s out : List ℕ) (at : ℕ) (out′ : List ℕ) (e : Ended) : Type 0 where
-  pub panel : Stands (e .state) (afterAll r (foundFrom s shopBytes))
+-- all that is found in the input was heard, beginning at r, and its lines were put; q is the panel then
+pub record AllPut (r : Replica) (s out : List ℕ) (at : ℕ) (out′ : List ℕ) (q : State) (e : Ended) : Type 0 where
+  pub panel : Stands q (afterAll r (foundFrom s shopBytes))
   pub lines : Written out at (messageLines 1 r (foundFrom s shopBytes)) out′ (e .behind)
   pub few : e .behind ≤ at + mostMessages * mostMessageBytes
 
--- the list lengths, the step totals and the registers of r were put
-pub record ClosingPut (r : Replica) (out : List ℕ) (at : ℕ) (out′ : List ℕ) (behind : ℕ) : Type 0 where
-  pub written : Written out at (closing r) out′ behind
+-- p with that core, those counters and those registers
+abbrev pub closingParts : State → Core → Counters → List ℕ → State
+closingParts p core counters registers =
+    packed core counters (p .held .words) (p .known .words) (p .awaiting .words) (p .clocks) (p .operations) (p .contexts) (p .order)
+    (p .stack) registers (p .saved) (p .responses)
+
+-- they are those of a panel that came from fresh and the calls
+pub record ClosingAsks (core : Core) (counters : Counters) (registers : List ℕ) : Type 0 where
+  pub panel : State
+  pub invariant : Inv (closingParts panel core counters registers)
+
+-- the list lengths, the step totals and the registers of every such panel were put
+pub record ClosingPut (core : Core) (counters : Counters) (registers out : List ℕ) (at : ℕ) (out′ : List ℕ) (behind : ℕ) : Type 0 where
+  pub written : (p : State) → Inv (closingParts p core counters registers)
+      → Written out at (closing (model (closingParts p core counters registers))) out′ behind
   pub few : behind ≤ at + mostTotalsBytes + mostRegistersBytes
+
+-- the input names a good shop, and q is its panel at a shift's first moment
+pub record Opens (s : List ℕ) (q : State) : Type 0 where
+  pub long : shopBytes ≤ length s
+  pub good : badShop (getD s 0 0) (getD s 1 0) ≡ false
+  pub panel : Stands q (fresh (getD s 0 0) (getD s 1 0))
 
 -- the printout of all the input's bytes stands at the front
 pub record PrintoutPut (input out out′ : List ℕ) (behind : ℕ) : Type 0 where

@@ -1,8 +1,12 @@
 // The printout of document 01: one definition of the input's bytes, `printout` of `specs/Sheet`, and `print`, which puts it into lent
 // bytes.
+//
+// The panel's memory is the local arrays of `put_printout`, which are lent to all that is called from there; its core and its counters
+// are handed on by value.
+use counters::Counters;
 use numbers::PanelNo;
-use replica::Called;
-use replica::State;
+use replica::CallResult;
+use replica::Core;
 use request::refusal;
 use wire::Answer;
 use wire::Message;
@@ -11,10 +15,12 @@ ghost use mathlib.Core.Path.{_≡_};
 ghost use Prim.Native.Nat.{_+_, _*_, _≤_};
 ghost use lib.ListN.{length};
 ghost use Rattle.report.specs.Sizes.{mostMessageBytes, mostTotalsBytes, mostRegistersBytes};
-ghost use Rattle.replica.specs.Model.{model, Inv, Kept};
+ghost use Rattle.replica.specs.State.{packed};
+ghost use Rattle.replica.specs.Model.{model, Inv};
 ghost use Rattle.wire.specs.Message.{said};
-ghost use Rattle.sheet.specs.Sheet.{callOf, shopBytes, mostMessages, mostInput, mostPrinted};
-ghost use Rattle.sheet.specs.Putting.{takenOf, TakenIn, HeardAs, MessageLinePut, LinePut, AllPut, ClosingPut, PrintoutPut, Printed};
+ghost use Rattle.sheet.specs.Sheet.{shopBytes, mostMessages, mostInput, mostPrinted};
+ghost use Rattle.sheet.specs.Putting.{takenOf, CallAsks, CallKept, TakenIn, HeardAs, MessageLinePut, LinePut, AllPut};
+ghost use Rattle.sheet.specs.Putting.{ClosingAsks, ClosingPut, Opens, PrintoutPut, Printed};
 
 // At most so many bytes of the input are read.
 pub const MOST_INPUT: usize = 65536;
@@ -25,29 +31,68 @@ pub const MOST_PRINTED: usize = 438473;
 // P and the own panel, one byte each.
 const SHOP_BYTES: usize = 2;
 
-// The panel after what was found, its refusal, and the undos done since the line before.
+// The panel's core and counters after what was found, its refusal, and the undos done since the line before.
 struct Heard {
-    state: State,
+    core: Core,
+    counters: Counters,
     refusal: u8,
     undone: u32,
 }
 
-// The panel after the last message, and the place behind the messages' lines.
+// The panel's core and counters after the last message, and the place behind the messages' lines.
 struct Ended {
-    state: State,
+    core: Core,
+    counters: Counters,
     behind: usize,
 }
 
 // A request is heard, a settlement is settled.
-fn call(p: State, m: Message) -> Called
-    requires { ⌜ Inv p ⌝ }
-    ensures { λ r. ⌜ Kept p (callOf (said m)) r ⌝ }
+fn call<'a>(
+    core: Core,
+    held: &mut [u64; 8],
+    known: &mut [u64; 8],
+    awaiting: &mut [u64; 8],
+    clocks: &mut [u32; 512],
+    operations: &mut [u64; 512],
+    contexts: &mut [u64; 4096],
+    order: &mut [u16; 512],
+    stack: &'a [u16; 512],
+    responses: &'a [u32; 512],
+    m: Message,
+) -> CallResult
+    requires { ⌜ CallAsks core (now held) (now known) (now awaiting) (now clocks) (now operations) (now contexts) (now order)
+        (now stack) (now responses) ⌝ }
+    ensures { λ r. ⌜ CallKept core (now (held .entry)) (now (known .entry)) (now (awaiting .entry)) (now (clocks .entry))
+        (now (operations .entry)) (now (contexts .entry)) (now (order .entry)) (now (stack .entry)) (now (responses .entry)) (said m)
+        (now (held .exit)) (now (known .exit)) (now (awaiting .exit)) (now (clocks .exit)) (now (operations .exit))
+        (now (contexts .exit)) (now (order .exit)) r ⌝ }
 {
     let x = m.request;
     if m.settles {
-        return replica::settling::commit(p, x.number);
+        return settling::commit(
+            core,
+            held,
+            known,
+            awaiting,
+            operations,
+            contexts,
+            order,
+            stack,
+            responses,
+            x.number,
+        );
     }
-    replica::entering::deliver(p, x)
+    entering::deliver(
+        core,
+        held,
+        known,
+        clocks,
+        operations,
+        contexts,
+        order,
+        stack,
+        x,
+    )
 }
 
 // The bytes that are passed over: those of a message, or all that are left.
@@ -62,39 +107,121 @@ fn bytes_passed(r: Reading, left: usize) -> usize
     }
 }
 
-// A message is heard or settled, then due steps are called until idle.
-fn take_in(p: State, m: Message) -> Heard
-    requires { ⌜ Inv p ⌝ }
-    ensures { λ h. ⌜ TakenIn p (said m) h ⌝ }
+// A message is heard or settled, then due steps are called until idle, and counted.
+fn take_in(
+    core: Core,
+    counters: Counters,
+    held: &mut [u64; 8],
+    known: &mut [u64; 8],
+    awaiting: &mut [u64; 8],
+    clocks: &mut [u32; 512],
+    operations: &mut [u64; 512],
+    contexts: &mut [u64; 4096],
+    order: &mut [u16; 512],
+    stack: &mut [u16; 512],
+    registers: &mut [u32; 64],
+    saved: &mut [u64; 512],
+    responses: &mut [u32; 512],
+    m: Message,
+) -> Heard
+    requires { ⌜ Inv (packed core counters (now held) (now known) (now awaiting) (now clocks) (now operations) (now contexts)
+        (now order) (now stack) (now registers) (now saved) (now responses)) ⌝ }
+    ensures { λ h. ⌜ TakenIn (packed core counters (now (held .entry)) (now (known .entry)) (now (awaiting .entry))
+        (now (clocks .entry)) (now (operations .entry)) (now (contexts .entry)) (now (order .entry)) (now (stack .entry))
+        (now (registers .entry)) (now (saved .entry)) (now (responses .entry))) (said m)
+        (packed (h .core) (h .counters) (now (held .exit)) (now (known .exit)) (now (awaiting .exit)) (now (clocks .exit))
+        (now (operations .exit)) (now (contexts .exit)) (now (order .exit)) (now (stack .exit)) (now (registers .exit))
+        (now (saved .exit)) (now (responses .exit))) h ⌝ }
 {
-    let before = replica::showing::undos(p);
-    let c = call(p, m);
+    let c = call(
+        core,
+        held,
+        known,
+        awaiting,
+        clocks,
+        operations,
+        contexts,
+        order,
+        stack,
+        responses,
+        m,
+    );
     let answer = c.answer;
-    let ran = replica::due::run_due(c.state);
-    let state = ran.state;
-    let undone = replica::showing::undos(state) - before;
+    let ran = due::run_due(
+        c.core,
+        awaiting,
+        operations,
+        order,
+        stack,
+        registers,
+        saved,
+        responses,
+    );
+    let after = ran.core;
+    let undone = ran.undos;
+    let undos = counters::undos_counted(counters, undone);
+    let steps = counters::executions_counted(undos, ran.executions);
     Heard {
-        state,
+        core: after,
+        counters: steps,
         refusal: answer.refusal,
         undone,
     }
 }
 
 // What was found is heard; what cannot be read leaves the panel alone.
-fn hear(p: State, r: Reading) -> Heard
-    requires { ⌜ Inv p ⌝ }
-    ensures { λ h. ⌜ HeardAs p r h ⌝ }
+fn hear(
+    core: Core,
+    counters: Counters,
+    held: &mut [u64; 8],
+    known: &mut [u64; 8],
+    awaiting: &mut [u64; 8],
+    clocks: &mut [u32; 512],
+    operations: &mut [u64; 512],
+    contexts: &mut [u64; 4096],
+    order: &mut [u16; 512],
+    stack: &mut [u16; 512],
+    registers: &mut [u32; 64],
+    saved: &mut [u64; 512],
+    responses: &mut [u32; 512],
+    r: Reading,
+) -> Heard
+    requires { ⌜ Inv (packed core counters (now held) (now known) (now awaiting) (now clocks) (now operations) (now contexts)
+        (now order) (now stack) (now registers) (now saved) (now responses)) ⌝ }
+    ensures { λ h. ⌜ HeardAs (packed core counters (now (held .entry)) (now (known .entry)) (now (awaiting .entry))
+        (now (clocks .entry)) (now (operations .entry)) (now (contexts .entry)) (now (order .entry)) (now (stack .entry))
+        (now (registers .entry)) (now (saved .entry)) (now (responses .entry))) r
+        (packed (h .core) (h .counters) (now (held .exit)) (now (known .exit)) (now (awaiting .exit)) (now (clocks .exit))
+        (now (operations .exit)) (now (contexts .exit)) (now (order .exit)) (now (stack .exit)) (now (registers .exit))
+        (now (saved .exit)) (now (responses .exit))) h ⌝ }
 {
     let answer = r.answer;
     match answer {
-        Answer::Message => take_in(p, r.message),
+        Answer::Message => take_in(
+            core,
+            counters,
+            held,
+            known,
+            awaiting,
+            clocks,
+            operations,
+            contexts,
+            order,
+            stack,
+            registers,
+            saved,
+            responses,
+            r.message,
+        ),
         Answer::End => Heard {
-            state: p,
+            core,
+            counters,
             refusal: refusal::ACCEPTED,
             undone: 0,
         },
         Answer::Refused(word) => Heard {
-            state: p,
+            core,
+            counters,
             refusal: word,
             undone: 0,
         },
@@ -146,40 +273,90 @@ fn put_line(out: &mut [u8], at: usize, place: u64, r: Reading, word: u8, undone:
 }
 
 // Hears all that is found behind the shop's bytes and puts its lines.
-fn put_messages(out: &mut [u8], from: usize, input: &[u8], p: State) -> Ended
-    requires { ⌜ Inv p ⌝ }
+fn put_messages(
+    out: &mut [u8],
+    from: usize,
+    input: &[u8],
+    core: Core,
+    counters: Counters,
+    held: &mut [u64; 8],
+    known: &mut [u64; 8],
+    awaiting: &mut [u64; 8],
+    clocks: &mut [u32; 512],
+    operations: &mut [u64; 512],
+    contexts: &mut [u64; 4096],
+    order: &mut [u16; 512],
+    stack: &mut [u16; 512],
+    registers: &mut [u32; 64],
+    saved: &mut [u64; 512],
+    responses: &mut [u32; 512],
+) -> Ended
+    requires { ⌜ Inv (packed core counters (now held) (now known) (now awaiting) (now clocks) (now operations) (now contexts)
+        (now order) (now stack) (now registers) (now saved) (now responses)) ⌝ }
     requires { ⌜ shopBytes ≤ length (now input) ⌝ }
     requires { ⌜ length (now input) ≤ mostInput ⌝ }
     requires { ⌜ from + mostMessages * mostMessageBytes ≤ length (now out) ⌝ }
-    ensures { λ e. ⌜ AllPut (model p) (now (input .entry)) (now (out .entry)) from (now (out .exit)) e ⌝ }
+    ensures { λ e. ⌜ AllPut (model (packed core counters (now (held .entry)) (now (known .entry)) (now (awaiting .entry))
+        (now (clocks .entry)) (now (operations .entry)) (now (contexts .entry)) (now (order .entry)) (now (stack .entry))
+        (now (registers .entry)) (now (saved .entry)) (now (responses .entry)))) (now (input .entry)) (now (out .entry)) from
+        (now (out .exit))
+        (packed (e .core) (e .counters) (now (held .exit)) (now (known .exit)) (now (awaiting .exit)) (now (clocks .exit))
+        (now (operations .exit)) (now (contexts .exit)) (now (order .exit)) (now (stack .exit)) (now (registers .exit))
+        (now (saved .exit)) (now (responses .exit))) e ⌝ }
 {
-    let mut state = p;
+    let mut after = core;
+    let mut counted = counters;
     let mut at = SHOP_BYTES;
     let mut behind = from;
     let mut place: u64 = 1;
     while at < input.len() {
         let r = wire::reader::read(input, at);
-        let h = hear(state, r);
-        state = h.state;
+        let h = hear(
+            after,
+            counted,
+            held,
+            known,
+            awaiting,
+            clocks,
+            operations,
+            contexts,
+            order,
+            stack,
+            registers,
+            saved,
+            responses,
+            r,
+        );
+        after = h.core;
+        counted = h.counters;
         behind = put_line(out, behind, place, r, h.refusal, h.undone);
         let bytes = bytes_passed(r, input.len() - at);
         at += bytes;
         place += 1;
     }
-    Ended { state, behind }
+    Ended {
+        core: after,
+        counters: counted,
+        behind,
+    }
 }
 
 // Puts the list lengths, the step totals and the registers.
-fn put_closing(out: &mut [u8], at: usize, p: State) -> usize
-    requires { ⌜ Inv p ⌝ }
+fn put_closing(
+    out: &mut [u8],
+    at: usize,
+    core: Core,
+    counters: Counters,
+    registers: &[u32],
+) -> usize
+    requires { ⌜ ClosingAsks core counters (now registers) ⌝ }
     requires { ⌜ at + mostTotalsBytes + mostRegistersBytes ≤ length (now out) ⌝ }
-    ensures { λ r. ⌜ ClosingPut (model p) (now (out .entry)) at (now (out .exit)) r ⌝ }
+    ensures { λ r. ⌜ ClosingPut core counters (now (registers .entry)) (now (out .entry)) at (now (out .exit)) r ⌝ }
 {
-    let settled = replica::showing::committed(p);
-    let unsettled = replica::showing::requests(p) - settled;
-    let undone = replica::showing::undos(p);
-    let carried = replica::showing::executions(p);
-    let values = replica::showing::registers(p);
+    let settled = replica::showing::committed(core);
+    let unsettled = replica::showing::requests(core) - settled;
+    let undone = replica::showing::undos(counters);
+    let carried = replica::showing::executions(counters);
     let registers_at = report::put_totals(
         out,
         at,
@@ -188,7 +365,115 @@ fn put_closing(out: &mut [u8], at: usize, p: State) -> usize
         undone as u64,
         carried as u64,
     );
-    report::put_registers(out, registers_at, &values)
+    report::put_registers(out, registers_at, registers)
+}
+
+// Puts the printout of a good shop, whose panel is that of its first moment.
+fn put_opened(
+    out: &mut [u8],
+    input: &[u8],
+    core: Core,
+    counters: Counters,
+    held: &mut [u64; 8],
+    known: &mut [u64; 8],
+    awaiting: &mut [u64; 8],
+    clocks: &mut [u32; 512],
+    operations: &mut [u64; 512],
+    contexts: &mut [u64; 4096],
+    order: &mut [u16; 512],
+    stack: &mut [u16; 512],
+    registers: &mut [u32; 64],
+    saved: &mut [u64; 512],
+    responses: &mut [u32; 512],
+) -> usize
+    requires { ⌜ Opens (now input) (packed core counters (now held) (now known) (now awaiting) (now clocks) (now operations)
+        (now contexts) (now order) (now stack) (now registers) (now saved) (now responses)) ⌝ }
+    requires { ⌜ length (now input) ≤ mostInput ⌝ }
+    requires { ⌜ mostPrinted ≤ length (now out) ⌝ }
+    ensures { λ r. ⌜ PrintoutPut (now (input .entry)) (now (out .entry)) (now (out .exit)) r ⌝ }
+{
+    let panels = input[0];
+    let own = input[1];
+    let messages_at = report::put_board(out, 0, panels as u64, own as u64);
+    let e = put_messages(
+        out,
+        messages_at,
+        input,
+        core,
+        counters,
+        held,
+        known,
+        awaiting,
+        clocks,
+        operations,
+        contexts,
+        order,
+        stack,
+        registers,
+        saved,
+        responses,
+    );
+    put_closing(out, e.behind, e.core, e.counters, registers)
+}
+
+// Makes the lent arrays those of the input's shop and puts its printout.
+fn put_shop(
+    out: &mut [u8],
+    input: &[u8],
+    held: &mut [u64; 8],
+    known: &mut [u64; 8],
+    awaiting: &mut [u64; 8],
+    clocks: &mut [u32; 512],
+    operations: &mut [u64; 512],
+    contexts: &mut [u64; 4096],
+    order: &mut [u16; 512],
+    stack: &mut [u16; 512],
+    registers: &mut [u32; 64],
+    saved: &mut [u64; 512],
+    responses: &mut [u32; 512],
+) -> usize
+    requires { ⌜ shopBytes ≤ length (now input) ⌝ }
+    requires { ⌜ length (now input) ≤ mostInput ⌝ }
+    requires { ⌜ mostPrinted ≤ length (now out) ⌝ }
+    ensures { λ r. ⌜ PrintoutPut (now (input .entry)) (now (out .entry)) (now (out .exit)) r ⌝ }
+{
+    let panels = input[0];
+    let own = input[1];
+    let opened = replica::fresh(
+        held,
+        known,
+        awaiting,
+        clocks,
+        operations,
+        contexts,
+        order,
+        stack,
+        registers,
+        saved,
+        responses,
+        panels,
+        PanelNo(own),
+    );
+    if opened.refusal != refusal::ACCEPTED {
+        return report::put_refused(out, 0, refusal::BAD_SHOP as u64);
+    }
+    put_opened(
+        out,
+        input,
+        opened.core,
+        opened.counters,
+        held,
+        known,
+        awaiting,
+        clocks,
+        operations,
+        contexts,
+        order,
+        stack,
+        registers,
+        saved,
+        responses,
+    )
 }
 
 // Puts the printout of at most MOST_INPUT bytes.
@@ -200,15 +485,32 @@ fn put_printout(out: &mut [u8], input: &[u8]) -> usize
     if input.len() < SHOP_BYTES {
         return report::put_refused(out, 0, refusal::CUT_SHORT as u64);
     }
-    let panels = input[0];
-    let own = input[1];
-    let opened = replica::fresh(panels, PanelNo(own));
-    if opened.refusal != refusal::ACCEPTED {
-        return report::put_refused(out, 0, refusal::BAD_SHOP as u64);
-    }
-    let messages_at = report::put_board(out, 0, panels as u64, own as u64);
-    let e = put_messages(out, messages_at, input, opened.state);
-    put_closing(out, e.behind, e.state)
+    let mut held = [0u64; 8];
+    let mut known = [0u64; 8];
+    let mut awaiting = [0u64; 8];
+    let mut clocks = [0u32; 512];
+    let mut operations = [0u64; 512];
+    let mut contexts = [0u64; 4096];
+    let mut order = [0u16; 512];
+    let mut stack = [0u16; 512];
+    let mut registers = [0u32; 64];
+    let mut saved = [0u64; 512];
+    let mut responses = [0u32; 512];
+    put_shop(
+        out,
+        input,
+        &mut held,
+        &mut known,
+        &mut awaiting,
+        &mut clocks,
+        &mut operations,
+        &mut contexts,
+        &mut order,
+        &mut stack,
+        &mut registers,
+        &mut saved,
+        &mut responses,
+    )
 }
 
 // Puts the printout of the input, of which at most MOST_INPUT bytes are read, at the front of `out` and returns the place behind it. An

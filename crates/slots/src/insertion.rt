@@ -5,11 +5,11 @@ ghost use mathlib.Core.Bool.{not};
 ghost use Prim.Native.Nat.{_+_};
 ghost use lib.Seq.{slice};
 ghost use Rattle.lists.specs.Places.{leading};
-ghost use Rattle.slots.specs.Slots.{OrderAsks, comesBefore};
-ghost use Rattle.slots.specs.Insertion.{InsertionAsks, Inserted};
+ghost use Rattle.slots.specs.Slots.{comesBefore};
+ghost use Rattle.slots.specs.Insertion.{PlaceAsks, InsertionAsks, Inserted};
 
 // The place of the request of that clock reading and slot among the places from..to of the order: behind those at the front that it
-// does not come before.
+// does not come before. Searches by halves: below `low` it comes before none, from `high` on before all.
 pub fn place<'a>(
     clocks: &'a [u32; 512],
     order: &'a [u16; 512],
@@ -18,18 +18,21 @@ pub fn place<'a>(
     clock: u32,
     slot: u16,
 ) -> usize
-    requires { ⌜ OrderAsks (now clocks) (now order) from to ⌝ }
+    requires { ⌜ PlaceAsks (now clocks) (now order) from to clock slot ⌝ }
     ensures { λ r. ⌜ r ≡ from + leading (λ t. not (comesBefore (now (clocks .entry)) clock slot t)) (slice from to (now (order .entry))) ⌝ }
 {
-    let mut at = from;
-    while at < to {
-        let t = order[at];
+    let mut low = from;
+    let mut high = to;
+    while low < high {
+        let middle = low + (high - low) / 2;
+        let t = order[middle];
         if order::comes_before(clocks, clock, slot, t) {
-            return at;
+            high = middle;
+        } else {
+            low = middle + 1;
         }
-        at += 1;
     }
-    at
+    low
 }
 
 // Puts s at place `at` of the first n of xs; what stood there and behind it moves one place up.

@@ -1,10 +1,14 @@
 -- `run` meets its contract.
 use native.Mathlib.Omega.{arith}
-use borrow.Author.Needs.{needs}
 use Rattle.driver.proofs.SizeLaws.{answers-room}
 use Rattle.driver.proofs.RunLaws.{ran-nothing, ran-all}
+use borrow.Author.Needs.{needs}
 use Rattle.driver.proofs.run.Statement.{statement}
 use Rattle.driver.proofs.run.Tie as tie
+
+-- what the bytes ask for
+abbrev own : tie.After-fresh → tie.After-byte-at2
+own c = c .before .before .before .before .before .before .before .before .before .before .before .before
 
 byte-at-requires : tie.Need-byte-at-requires
 byte-at-requires c κs = search needs
@@ -20,17 +24,17 @@ call-count-requires c κs = search needs
 
 returns : tie.Need-returns
 returns c =
-    let counted = c .before .before in
+    let counted = c .before .before .before in
     let opened = counted .before in
-    let own = opened .before in
-    ran-nothing _ _ _ _ _ (own .before .byte-at .ensures) (own .byte-at2 .ensures) (opened .fresh .ensures) _ (counted .call-count .ensures)
-    (c .if1 .taken)
+    let asked = own opened in
+    ran-nothing _ _ _ _ _ (asked .before .byte-at .ensures) (asked .byte-at2 .ensures) (opened .fresh .ensures .opened) _
+    (counted .call-count .ensures) (c .if1 .taken) _ _
 
 run-all-requires : tie.Need-run-all-requires
 run-all-requires c κs =
-    let roomy = c .before in
-    let counted = roomy .before .before in (
-      counted .before .fresh .ensures .invariant,
+    let roomy = c .before .before .before .before .before .before .before .before .before .before .before .before in
+    let counted = roomy .before .before .before in (
+      counted .before .fresh .ensures .opened .invariant,
       (counted .call-count .ensures, answers-room _ _ _ (omega (arith, counted .call-count .ensures, roomy .if1 .left))),
     )
 
@@ -39,13 +43,13 @@ same-length c = search needs
 
 returns-2 : tie.Need-returns-2
 returns-2 c =
-    let all = c .before .before in
-    let roomy = all .before .before in
-    let counted = roomy .before .before in
+    let all = c .before .before .before .before in
+    let roomy = all .before .before .before .before .before .before .before .before .before .before .before .before .before in
+    let counted = roomy .before .before .before in
     let opened = counted .before in
-    let own = opened .before in
-    ran-all _ _ _ _ _ (own .before .byte-at .ensures) (own .byte-at2 .ensures) (opened .fresh .ensures) _ (counted .call-count .ensures)
-    (roomy .if1 .left) _ _ (all .run-all .ensures)
+    let asked = own opened in
+    ran-all _ _ _ _ _ (asked .before .byte-at .ensures) (asked .byte-at2 .ensures) (opened .fresh .ensures .opened) _
+    (counted .call-count .ensures) (roomy .if1 .left) _ _ (all .run-all .ensures) _ _
 
 pub run-spec : {M : Type 1} → statement M
 run-spec =

@@ -1,32 +1,37 @@
 -- `fresh` meets its contract.
-use native.Mathlib.Omega.{arith}
-use mathlib.Core.Path.{_∙_, sym}
+use mathlib.Core.Path.{sym, _∙_}
+use Rattle.numbers.specs.Numbers.{panelNo}
+use Rattle.replica.proofs.States.{emptyState}
+use Rattle.replica.proofs.FreshLaws.{good-shop, one-panel-shop, empty-made, fresh-refused, fresh-opened}
 use borrow.Author.Needs.{needs}
-use Rattle.replica.proofs.FreshLaws.{good-shop, fresh-refused, fresh-opened}
 use Rattle.replica.proofs.fresh.Statement.{statement}
 use Rattle.replica.proofs.fresh.Tie as tie
 
 bad-shop-requires : tie.Need-bad-shop-requires
 bad-shop-requires c κs = search needs
 
-empty-requires : tie.Need-empty-requires
-empty-requires c κs = record { few = omega arith; below = omega arith }
+first-core-requires : tie.Need-first-core-requires
+first-core-requires c κs = search needs
 
 returns : tie.Need-returns
 returns c =
-    let a = c .before .before in
-    fresh-refused (a .before .args .panels) (a .before .args .own .0) _ (sym (a .bad-shop .ensures) ∙ c .before .if1 .taken) (c .empty .ensures)
+    let first = c .before in
+    record {
+      opened =
+          rw (c .first-core .ensures)
+          (fresh-refused _ _ (emptyState 1 (panelNo 0)) (sym (first .before .bad-shop .ensures) ∙ first .if1 .taken) (empty-made 1 (panelNo 0) one-panel-shop));
+    }
 
-empty-requires-2 : tie.Need-empty-requires-2
-empty-requires-2 c κs =
-    let a = c .before in
-    good-shop (a .before .args .panels) (a .before .args .own .0) (sym (a .bad-shop .ensures) ∙ c .if1 .left)
+first-core-requires-2 : tie.Need-first-core-requires-2
+first-core-requires-2 c κs = search needs
 
 returns-2 : tie.Need-returns-2
 returns-2 c =
-    let a = c .before .before in
-    fresh-opened (a .before .args .panels) (a .before .args .own .0) _ (sym (a .bad-shop .ensures) ∙ c .before .if1 .left) (c .empty2 .ensures)
+    let else = c .before in
+    let good = sym (else .before .bad-shop .ensures) ∙ else .if1 .left in
+    record { opened = rw (c .first-core2 .ensures) (fresh-opened _ _ _ good (empty-made _ _ (good-shop _ _ good))) }
 
 pub fresh-spec : {M : Type 1} → statement M
 fresh-spec =
-    tie.close (tie.spec bad-shop-requires empty-requires returns empty-requires-2 returns-2)
+    tie.close
+    (tie.spec bad-shop-requires first-core-requires returns first-core-requires-2 returns-2)

@@ -1,27 +1,35 @@
 -- `call` meets its contract.
-use Rattle.wire.proofs.HeldLaws.{said-settlement, said-request}
-use Rattle.sheet.specs.Sheet.{callOf}
-use borrow.Author.Needs.{needs}
+use Rattle.replica.specs.State.{State}
+use Rattle.sheet.specs.Putting.{callParts}
+use Rattle.sheet.proofs.PuttingLaws.{call-settled, call-heard}
 use Rattle.sheet.proofs.call.Statement.{statement}
 use Rattle.sheet.proofs.call.Tie as tie
 
+-- a panel with the parts lent
+abbrev lent : tie.Start → State
+lent a =
+    callParts (a .pre .panel) (a .args .core) (a .args .held .now) (a .args .known .now) (a .args .awaiting .now) (a .args .clocks .now)
+    (a .args .operations .now) (a .args .contexts .now) (a .args .order .now) (a .args .stack .now) (a .args .responses .now)
+
 commit-requires : tie.Need-commit-requires
-commit-requires c κs = search needs
+commit-requires c κs =
+    let a = c .before .before .before .before .before .before .before .before in
+    record { panel = lent a; invariant = a .pre .invariant }
 
 returns : tie.Need-returns
-unfolding callOf
 returns c =
-    let a = c .before .before .before .args in
-    rw (said-settlement (a .m) (c .before .if1 .taken)) (c .commit .ensures)
+    let settles = c .before .before .before .before .before .before .before in
+    call-settled (settles .before .before .args .m) (settles .if1 .taken) (c .commit .ensures)
 
 deliver-requires : tie.Need-deliver-requires
-deliver-requires c κs = search needs
+deliver-requires c κs =
+    let a = c .before .before .before .before .before .before .before .before in
+    record { panel = lent a; invariant = a .pre .invariant }
 
 returns-2 : tie.Need-returns-2
-unfolding callOf
 returns-2 c =
-    let a = c .before .before .before .args in
-    rw (said-request (a .m) (c .before .if1 .left)) (c .deliver .ensures)
+    let hears = c .before .before .before .before .before .before .before in
+    call-heard (hears .before .before .args .m) (hears .if1 .left) (c .deliver .ensures)
 
 pub call-spec : {M : Type 1} → statement M
 call-spec = tie.close (tie.spec commit-requires returns deliver-requires returns-2)

@@ -1,47 +1,70 @@
 -- `put_closing` meets its contract.
-use Prim.Native.Nat.{_<_, _≤_, _^_, _-_}
+use Prim.Native.Nat.{_+_, _<_, _≤_, _^_, _-_}
 use native.Mathlib.Omega.{arith}
 use mathlib.Core.Path.{_≡_, ap, _∙_}
-use lib.ListN.{length, getD, length-append}
-use mir.Syntax.{w32}
-use mir.Val.{Fits}
+use lib.ListN.{length, length-append}
 use Rattle.text.proofs.PlacedLaws.{then, same-size}
 use Rattle.registers.proofs.FrameLaws.{InRange}
 use Rattle.report.specs.Lines.{totalsLine, registerLines}
 use Rattle.report.specs.Sizes.{mostTotalsBytes, mostRegistersBytes}
 use Rattle.report.proofs.SizeLaws.{totals-short, registers-short}
-use Rattle.replica.specs.Model.{model}
+use Rattle.replica.specs.State.{State}
+use Rattle.replica.specs.Model.{model, Inv}
+use Rattle.replica.proofs.ShowingLaws.{all-registers-are}
+use Rattle.sheet.specs.Putting.{closingParts}
 use Rattle.sheet.proofs.PuttingLaws.{registers-count, closing-is}
 use borrow.Author.Needs.{needs}
 use Rattle.sheet.proofs.put_closing.Statement.{statement}
 use Rattle.sheet.proofs.put_closing.Tie as tie
 
+-- p with the parts given
+abbrev given : tie.Start → State → State
+given a p = closingParts p (a .args .core) (a .args .counters) (a .args .registers .now)
+
+-- a panel with the parts given
+abbrev panel : tie.Start → State
+panel a = given a (a .pre .0 .panel)
+
+abbrev start : tie.After-requests → tie.Start
+start c = c .before .before .before .before
+
+-- the requests are the settled and the unsettled
+lists-are : (c : tie.After-requests) (p : State) → Inv (given (start c) p)
+    → let a = model (given (start c) p) .book .plan in
+    (c .before .committed .result ≡ length (a .committed)) × (c .requests .result ≡ length (a .committed) + length (a .tentative))
+lists-are c p inv =
+    let q = given (start c) p in
+    let a = model q .book .plan in
+    (c .before .committed .ensures .shown q inv, c .requests .ensures .shown q inv ∙ length-append (a .committed) (a .tentative))
+
 -- the settled requests are some of all
 settled-fits : (c : tie.After-requests) → c .before .committed .result ≤ c .requests .result
 settled-fits c =
-    let a = model (c .before .before .before .args .p) .book .plan in
-    omega (arith, c .before .committed .ensures, c .requests .ensures, length-append (a .committed) (a .tentative))
+    let are = lists-are c (start c .pre .0 .panel) (start c .pre .0 .invariant) in
+    omega (arith, are .0, are .1)
 
-totals-fit : (c : tie.After-registers) → let r = c .before .before .before in
+totals-fit : (c : tie.After-executions) → let r = c .before .before in
     length (totalsLine (r .before .committed .result) (r .requests .result - r .before .committed .result)
-    (c .before .before .undos .result) (c .before .executions .result))
+    (c .before .undos .result) (c .executions .result))
     ≤ mostTotalsBytes
 totals-fit c =
-    let r = c .before .before .before in
+    let r = c .before .before in
     let low = settled-fits r in
-    let few = r .before .before .before .pre .0 .sound .few in
-    let undone : c .before .before .undos .result < 2 ^ 32 = search needs in
-    let carried : c .before .executions .result < 2 ^ 32 = search needs in
-    totals-short _ _ _ _ (omega (arith, low, few, r .requests .ensures)) (omega (arith, low, few, r .requests .ensures)) undone carried
+    let inv = start r .pre .0 .invariant in
+    let all = r .requests .ensures .shown (panel (start r)) inv in
+    let undone : c .before .undos .result < 2 ^ 32 = search needs in
+    let carried : c .executions .result < 2 ^ 32 = search needs in
+    totals-short _ _ _ _ (omega (arith, low, inv .sound .few, all)) (omega (arith, low, inv .sound .few, all)) undone carried
 
 -- what the type says
-in-range : (c : tie.After-registers) → InRange (c .registers .result)
-in-range c k = let small : Fits w32 (getD (c .registers .result) k 0) = search needs in small .fits
+in-range : (c : tie.After-shared-slice-known) → InRange (c .before .before .args .registers .now)
+in-range c k = omega (arith, c .shared-slice-known .given k)
 
-registers-fit : (c : tie.After-registers) → length (registerLines (c .registers .result)) ≤ mostRegistersBytes
+registers-fit : (c : tie.After-shared-slice-known) → length (registerLines (c .before .before .args .registers .now)) ≤ mostRegistersBytes
 registers-fit c =
-    let p = c .before .before .before .before .before .before .args .p in
-    registers-short (c .registers .result) (ap length (c .registers .ensures) ∙ registers-count (model p)) (in-range c)
+    let a = c .before .before in
+    let are = all-registers-are (panel a) (a .pre .0 .invariant) in
+    registers-short (a .args .registers .now) (ap length are ∙ registers-count (model (panel a))) (in-range c)
 
 committed-requires : tie.Need-committed-requires
 committed-requires c κs = search needs
@@ -58,9 +81,6 @@ undos-requires c κs = search needs
 executions-requires : tie.Need-executions-requires
 executions-requires c κs = search needs
 
-registers-requires : tie.Need-registers-requires
-registers-requires c κs = search needs
-
 cast-put-totals : tie.Need-cast-put-totals
 cast-put-totals c = search needs
 
@@ -68,19 +88,14 @@ cast-put-totals-2 : tie.Need-cast-put-totals-2
 cast-put-totals-2 c = search needs
 
 put-totals-requires : tie.Need-put-totals-requires
-put-totals-requires c κs =
-    let s = c .before .before .before .before .before .before .before in
-    record { fits = omega (arith, s .pre .1, totals-fit (c .before)) }
-
-slice-aggregate-put-registers : tie.Need-slice-aggregate-put-registers
-slice-aggregate-put-registers c = search needs
+put-totals-requires c κs = record { fits = omega (arith, start (c .before .before .before) .pre .1, totals-fit (c .before)) }
 
 put-registers-requires : tie.Need-put-registers-requires
 put-registers-requires c κs =
-    let w = c .before .before .before .before .put-totals .ensures in
-    let v = c .before .before .before .before .before .before in
-    let s = v .before .before .before .before .before .before in
-    record { fits = omega (arith, s .pre .1, w .place, same-size w, totals-fit v, registers-fit v) }
+    let first = c .before .before .before .put-totals .ensures in
+    let v = c .before .before .before .before .before in
+    let r = v .before .before in
+    record { fits = omega (arith, start r .pre .1, first .place, same-size first, totals-fit v, registers-fit (r .before .before)) }
 
 same-length : tie.Need-same-length
 same-length c = search needs
@@ -88,21 +103,20 @@ same-length c = search needs
 returns : tie.Need-returns
 returns c =
     let second = c .before .before .put-registers .ensures in
-    let first = c .before .before .before .before .before .before .before .put-totals .ensures in
-    let v = c .before .before .before .before .before .before .before .before .before in
-    let undone = v .before .before in
-    let r = undone .before in
-    let p = r .before .before .before .args .p in
-    let a = model p .book .plan in
-    let settled = r .before .committed .ensures in
-    let carried = v .before .executions .ensures in
-    let unsettled : r .requests .result - r .before .committed .result ≡ length (a .tentative) =
-    omega (arith, settled, r .requests .ensures, length-append (a .committed) (a .tentative)) in
+    let first = c .before .before .before .before .before .before .put-totals .ensures in
+    let v = c .before .before .before .before .before .before .before .before in
+    let r = v .before .before in
+    let core = start r .args .core in
     record {
-      written =
-          rw (closing-is (model p) _ _ _ _ _ settled unsettled (undone .undos .ensures) carried (v .registers .ensures))
+      written = λ p inv.
+          let q = given (start r) p in
+          let are = lists-are r p inv in
+          let unsettled : r .requests .result - r .before .committed .result ≡ length (model q .book .plan .tentative) =
+          omega (arith, are .0, are .1) in
+          rw (closing-is (model q) _ _ _ _ _ (are .0) unsettled (v .before .undos .ensures .shown q core)
+          (v .executions .ensures .shown q core) (all-registers-are q inv))
           (then first second);
-      few = omega (arith, first .place, second .place, totals-fit v, registers-fit v);
+      few = omega (arith, first .place, second .place, totals-fit v, registers-fit (r .before .before));
     }
 
 pub put-closing-spec : {M : Type 1} → statement M
@@ -114,11 +128,9 @@ put-closing-spec =
     sub-unsettled
     undos-requires
     executions-requires
-    registers-requires
     cast-put-totals
     cast-put-totals-2
     put-totals-requires
-    slice-aggregate-put-registers
     put-registers-requires
     same-length
     returns)

@@ -1,49 +1,64 @@
 -- `take_in` meets its contract.
 use native.Mathlib.Omega.{arith}
-use Rattle.sheet.proofs.PuttingLaws.{taken-in, undos-rise}
-use borrow.Author.Needs.{needs}
+use mathlib.Core.Path.{refl, ap}
+use Rattle.counters.specs.declared.Counters.{Counters}
+use Rattle.replica.specs.State.{State, packed}
+use Rattle.replica.proofs.BoundLaws.{undos-fit, executions-fit}
+use Rattle.sheet.proofs.PuttingLaws.{stateAfter, taken-in}
 use Rattle.sheet.proofs.take_in.Statement.{statement}
 use Rattle.sheet.proofs.take_in.Tie as tie
 
-undos-requires : tie.Need-undos-requires
-undos-requires c κs = search needs
+-- the panel at the entry
+abbrev entered : tie.Start → State
+entered a =
+    packed (a .args .core) (a .args .counters) (a .args .held .now) (a .args .known .now) (a .args .awaiting .now) (a .args .clocks .now)
+    (a .args .operations .now) (a .args .contexts .now) (a .args .order .now) (a .args .stack .now) (a .args .registers .now)
+    (a .args .saved .now) (a .args .responses .now)
+
+abbrev start : tie.After-call → tie.Start
+start c = c .before .before .before .before .before .before .before .before .before .before
+
+abbrev called : tie.After-run-due → tie.After-call
+called c = c .before .before .before .before .before .before .before .before .before
 
 call-requires : tie.Need-call-requires
-call-requires c κs = search needs
+call-requires c κs =
+    let a = c .before .before .before .before .before .before .before .before .before in
+    record { panel = entered a; invariant = a .pre }
 
 run-due-requires : tie.Need-run-due-requires
-run-due-requires c κs = search needs
+run-due-requires c κs =
+    let call = c .before .before .before .before .before .before .before .before in
+    let kept = call .call .ensures .kept (entered (start call)) (start call .pre) in
+    record { panel = stateAfter kept; invariant = kept .invariant }
 
-undos-requires-2 : tie.Need-undos-requires-2
-undos-requires-2 c κs = search needs
+undos-counted-requires : tie.Need-undos-counted-requires
+undos-counted-requires c κs =
+    let call = called (c .before) in
+    let kept = call .call .ensures .kept (entered (start call)) (start call .pre) in
+    let due = c .before .run-due .ensures .kept (stateAfter kept) (kept .invariant) in
+    undos-fit _ (due .invariant)
 
-sub-undone : tie.Need-sub-undone
-sub-undone c =
-    let ran = c .before .before in
-    let called = ran .before .before in
-    let s = called .before .before in
-    omega (
-      arith,
-      called .before .undos .ensures,
-      c .undos2 .ensures,
-      undos-rise (s .args .p) (s .args .m) (called .call .result) (called .call .ensures) (ran .run-due .result) (ran .run-due .ensures),
-    )
+executions-counted-requires : tie.Need-executions-counted-requires
+executions-counted-requires c κs =
+    let call = called (c .before .before) in
+    let kept = call .call .ensures .kept (entered (start call)) (start call .pre) in
+    let due = c .before .before .run-due .ensures .kept (stateAfter kept) (kept .invariant) in
+    omega (arith, executions-fit _ (due .invariant), ap (λ (k : Counters). k .executions) (c .undos-counted .ensures))
 
 returns : tie.Need-returns
 returns c =
-    let ran = c .before .before in
-    let called = ran .before .before in
-    let s = called .before .before in
-    taken-in (s .args .p) (s .args .m) (called .call .result) (called .call .ensures) (ran .run-due .result) (ran .run-due .ensures)
-    _ _ (called .before .undos .ensures) (c .undos2 .ensures)
+    let call = called (c .before .before .before) in
+    let kept = call .call .ensures .kept (entered (start call)) (start call .pre) in
+    let due = c .before .before .before .run-due .ensures .kept (stateAfter kept) (kept .invariant) in
+    rw (c .executions-counted .ensures, c .before .undos-counted .ensures) (taken-in _ _ _ kept _ due refl _ refl refl)
 
 pub take-in-spec : {M : Type 1} → statement M
 take-in-spec =
     tie.close
     (tie.spec
-    undos-requires
     call-requires
     run-due-requires
-    undos-requires-2
-    sub-undone
+    undos-counted-requires
+    executions-counted-requires
     returns)

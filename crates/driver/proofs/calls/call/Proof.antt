@@ -1,32 +1,55 @@
 -- `calls::call` meets its contract: each arm is a case of the call's tag.
+use Rattle.replica.specs.State.{State, packed}
 use Rattle.driver.proofs.DueLaws.{done-due, done-call}
-use Rattle.driver.proofs.CallLaws.{kept-undo, kept-execute, kept-invoke, kept-commit, kept-deliver}
+use Rattle.driver.proofs.CallLaws.{kept-undo, kept-execute, kept-message}
 use borrow.Author.Needs.{needs}
 use Rattle.driver.proofs.calls.call.Statement.{statement}
 use Rattle.driver.proofs.calls.call.Tie as tie
+
+-- the panel before the call
+abbrev panel : tie.Start → State
+panel a =
+    packed (a .args .core) (a .args .counters) (a .args .held .now) (a .args .known .now) (a .args .awaiting .now) (a .args .clocks .now)
+    (a .args .operations .now) (a .args .contexts .now) (a .args .order .now) (a .args .stack .now) (a .args .registers .now)
+    (a .args .saved .now) (a .args .responses .now)
 
 shared-slice-read-tag : tie.Need-shared-slice-read-tag
 shared-slice-read-tag c = search needs
 
 all-due-requires : tie.Need-all-due-requires
-all-due-requires c κs = search needs
+all-due-requires c κs =
+    let a = c .before .before .before .before .before .before .before .before .before .before in
+    record { panel = panel a; invariant = a .pre .0 }
 
 returns : tie.Need-returns
-returns c = done-due _ _ _ _ (c .before .if1 .taken) (c .all-due .ensures)
+returns c =
+    let due = c .before .before .before .before .before .before .before .before in
+    let a = due .before .before .before in
+    done-due (panel a) _ _ _ (due .if1 .taken) (c .all-due .ensures .done (panel a) (a .pre .0))
 
-undo-requires : tie.Need-undo-requires
-undo-requires c κs = search needs
+undo-counted-requires : tie.Need-undo-counted-requires
+undo-counted-requires c κs =
+    let a = c .before .before .before .before .before .before .before .before in
+    record { panel = panel a; invariant = a .pre .0 }
 
 returns-2 : tie.Need-returns-2
-returns-2 c = done-call _ _ _ _ (c .before .before .if1 .left) (kept-undo _ _ _ _ (c .before .if2 .taken) (c .undo .ensures))
+returns-2 c =
+    let back = c .before .before .before .before .before in
+    let a = back .before .before .before .before in
+    done-call (panel a) _ _ _ (back .before .if1 .left)
+    (kept-undo (panel a) _ _ _ (back .if2 .taken) (c .undo-counted .ensures .kept (panel a) (a .pre .0)))
 
-execute-requires : tie.Need-execute-requires
-execute-requires c κs = search needs
+execute-counted-requires : tie.Need-execute-counted-requires
+execute-counted-requires c κs =
+    let a = c .before .before .before .before .before .before .before .before .before .before .before .before in
+    record { panel = panel a; invariant = a .pre .0 }
 
 returns-3 : tie.Need-returns-3
 returns-3 c =
-    done-call _ _ _ _ (c .before .before .before .if1 .left)
-    (kept-execute _ _ _ _ (c .before .before .if2 .left) (c .before .if3 .taken) (c .execute .ensures))
+    let next = c .before .before .before .before .before .before .before .before in
+    let a = next .before .before .before .before .before in
+    done-call (panel a) _ _ _ (next .before .before .if1 .left)
+    (kept-execute (panel a) _ _ _ (next .before .if2 .left) (next .if3 .taken) (c .execute-counted .ensures .kept (panel a) (a .pre .0)))
 
 add-read : tie.Need-add-read
 add-read c = search needs
@@ -34,41 +57,21 @@ add-read c = search needs
 read-requires : tie.Need-read-requires
 read-requires c κs = search needs
 
-invocation-of-requires : tie.Need-invocation-of-requires
-invocation-of-requires c κs = search needs
-
-invoke-requires : tie.Need-invoke-requires
-invoke-requires c κs = search needs
+message-call-requires : tie.Need-message-call-requires
+message-call-requires c κs =
+    let read = c .before .before .before .before .before .before .before .before .before .before in
+    let a = read .before .before .before .before .before .before in
+    record { panel = panel a; invariant = a .pre .0 }
 
 returns-4 : tie.Need-returns-4
 returns-4 c =
-    let is = c .before .before in
-    let read = is .before .before .before in
-    done-call _ _ _ _ (read .before .before .before .if1 .left)
-    (kept-invoke _ _ _ _ (read .before .before .if2 .left) (read .before .if3 .left) _ (read .read .ensures) (is .if4 .taken) _
-    (c .before .invocation-of .ensures) (c .invoke .ensures))
-
-commit-requires : tie.Need-commit-requires
-commit-requires c κs = search needs
-
-returns-5 : tie.Need-returns-5
-returns-5 c =
-    let no-invoke = c .before .before in
-    let read = no-invoke .before .before .before in
-    done-call _ _ _ _ (read .before .before .before .if1 .left)
-    (kept-commit _ _ _ _ (read .before .before .if2 .left) (read .before .if3 .left) _ (read .read .ensures) (no-invoke .if4 .left)
-    (c .before .if5 .taken) (c .commit .ensures))
-
-deliver-requires : tie.Need-deliver-requires
-deliver-requires c κs = search needs
-
-returns-6 : tie.Need-returns-6
-returns-6 c =
-    let no-invoke = c .before .before in
-    let read = no-invoke .before .before .before in
-    done-call _ _ _ _ (read .before .before .before .if1 .left)
-    (kept-deliver _ _ _ _ (read .before .before .if2 .left) (read .before .if3 .left) _ (read .read .ensures) (no-invoke .if4 .left)
-    (c .before .if5 .left) (c .deliver .ensures))
+    let called = c .before .before in
+    let read = called .before .before .before .before .before .before .before .before .before .before .before in
+    let other = read .before in
+    let a = other .before .before .before .before .before in
+    done-call (panel a) _ _ _ (other .before .before .if1 .left)
+    (kept-message (panel a) _ _ _ (other .before .if2 .left) (other .if3 .left) _ (read .read .ensures)
+    (called .message-call .ensures .kept (panel a) (a .pre .0)))
 
 pub call-spec : {M : Type 1} → statement M
 call-spec =
@@ -77,16 +80,11 @@ call-spec =
     shared-slice-read-tag
     all-due-requires
     returns
-    undo-requires
+    undo-counted-requires
     returns-2
-    execute-requires
+    execute-counted-requires
     returns-3
     add-read
     read-requires
-    invocation-of-requires
-    invoke-requires
-    returns-4
-    commit-requires
-    returns-5
-    deliver-requires
-    returns-6)
+    message-call-requires
+    returns-4)

@@ -1,65 +1,44 @@
 -- `showing::at_place` meets its contract.
-use Prim.Native.Nat.{_-_}
 use native.Mathlib.Omega.{arith}
-use lib.ListN.{getD}
-use borrow.Author.Needs.{needs}
-use Rattle.slots.specs.Slots.{IsSlot}
-use Rattle.replica.specs.Model.{requestAt}
+use Prim.Native.Nat.{_-_}
+use Rattle.replica.specs.State.{State}
+use Rattle.replica.specs.Shown.{placeParts}
 use Rattle.replica.proofs.ModelLaws.{order-slot}
-use Rattle.replica.proofs.ShowingLaws.{Within, within, place-refused, place-shown}
+use Rattle.replica.proofs.ShowingLaws.{place-refused, Within, within, place-shown}
+use borrow.Author.Needs.{needs}
 use Rattle.replica.proofs.showing.at_place.Statement.{statement}
 use Rattle.replica.proofs.showing.at_place.Tie as tie
 
-inside : (c : tie.Else1) → Within (c .before .args .t1) (c .before .pre) (c .before .args .place)
-inside c = within (c .before .args .t1) (c .before .pre) (c .before .args .place) (c .if1 .left)
+abbrev lent : tie.Start → State
+lent a =
+    placeParts (a .pre .panel) (a .args .core) (a .args .clocks .now) (a .args .operations .now) (a .args .contexts .now) (a .args .order .now)
 
-slot : (c : tie.Else1) → IsSlot (getD (c .before .args .t1 .order) (c .before .args .place - 1) 0)
-slot c = order-slot (c .before .args .t1) (c .before .pre) (c .before .args .place - 1) (omega (arith, inside c))
+inside : (c : tie.Else1) → Within (lent (c .before .before)) (c .before .before .pre .invariant) (c .before .before .args .place)
+inside c = within (lent (c .before .before)) (c .before .before .pre .invariant) (c .before .before .args .place) (c .if1 .left)
 
 no-request-requires : tie.Need-no-request-requires
 no-request-requires c κs = search needs
 
 returns : tie.Need-returns
-returns c = place-refused _ (c .before .before .pre) _ _ (c .before .if1 .taken) (c .no-request .ensures)
+returns c = record { shown = λ p inv. place-refused _ inv _ _ (c .before .if1 .taken) (c .no-request .ensures) }
 
 sub-slot : tie.Need-sub-slot
 sub-slot c = omega (arith, inside c)
 
 mul-slot : tie.Need-mul-slot
-mul-slot c = omega (arith, inside c, c .before .pre .counts)
+mul-slot c = omega (arith, inside c, c .before .before .pre .invariant .counts)
 
 element-copy-out-slot : tie.Need-element-copy-out-slot
-element-copy-out-slot c = omega (arith, inside c, c .before .pre .counts)
+element-copy-out-slot c = omega (arith, inside c, c .before .before .pre .invariant .counts)
 
-cast-clock : tie.Need-cast-clock
-cast-clock c = search needs
-
-mul-clock : tie.Need-mul-clock
-mul-clock c = omega (arith, slot (c .before))
-
-element-copy-out-clock : tie.Need-element-copy-out-clock
-element-copy-out-clock c = slot (c .before)
-
-cast-body : tie.Need-cast-body
-cast-body c = search needs
-
-mul-body : tie.Need-mul-body
-mul-body c = omega (arith, slot (c .before .before))
-
-element-copy-out-body : tie.Need-element-copy-out-body
-element-copy-out-body c = slot (c .before .before)
-
-number-of-requires : tie.Need-number-of-requires
-number-of-requires c κs = search needs
-
-with-body-requires : tie.Need-with-body-requires
-with-body-requires c κs = search needs
+request-at-requires : tie.Need-request-at-requires
+request-at-requires c κs =
+    let else = c .before in
+    let a = else .before .before in
+    (order-slot (lent a) (a .pre .invariant) (a .args .place - 1) (omega (arith, inside else)), a .pre .invariant .lengths .requests)
 
 returns-2 : tie.Need-returns-2
-unfolding requestAt
-returns-2 c =
-    let else = c .before .before .before .before .before in
-    place-shown _ (else .before .pre) _ _ (else .if1 .left) (rw (← c .before .number-of .ensures) (c .with-body .ensures))
+returns-2 c = record { shown = λ p inv. place-shown _ inv _ _ (c .before .before .if1 .left) (c .request-at .ensures) }
 
 pub at-place-spec : {M : Type 1} → statement M
 at-place-spec =
@@ -70,12 +49,5 @@ at-place-spec =
     sub-slot
     mul-slot
     element-copy-out-slot
-    cast-clock
-    mul-clock
-    element-copy-out-clock
-    cast-body
-    mul-body
-    element-copy-out-body
-    number-of-requires
-    with-body-requires
+    request-at-requires
     returns-2)

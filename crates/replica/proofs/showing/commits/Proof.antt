@@ -4,7 +4,7 @@ use Rattle.replica.proofs.showing.commits.Statement.{statement}
 use Rattle.replica.proofs.showing.commits.Tie as tie
 
 returns : tie.Need-returns
-returns c = commits-are _ (c .pre)
+returns c = record { shown = λ p inv. commits-are _ inv }
 
 pub commits-spec : {M : Type 1} → statement M
 commits-spec = tie.close (tie.spec returns)

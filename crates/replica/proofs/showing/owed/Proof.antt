@@ -1,6 +1,6 @@
 -- `showing::owed` meets its contract.
-use borrow.Author.Needs.{needs}
 use Rattle.replica.proofs.ShowingLaws.{owed-are}
+use borrow.Author.Needs.{needs}
 use Rattle.replica.proofs.showing.owed.Statement.{statement}
 use Rattle.replica.proofs.showing.owed.Tie as tie
 
@@ -14,7 +14,7 @@ add-result : tie.Need-add-result
 add-result c = search needs
 
 returns : tie.Need-returns
-returns c = owed-are _ (c .before .before .pre)
+returns c = record { shown = λ p inv. owed-are _ inv }
 
 pub owed-spec : {M : Type 1} → statement M
 owed-spec = tie.close (tie.spec sub-result sub-result-2 add-result returns)

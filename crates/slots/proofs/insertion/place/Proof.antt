@@ -1,28 +1,32 @@
--- `insertion::place` meets its contract. The invariant: the place, with how many follow at the front from there on, is the whole's.
-use Prim.Native.Nat.{ℕ, _≤_, _+_, _-_}
+-- `insertion::place` meets its contract; the laws of the search by halves are in `HalvesLaws` of the lists.
+use Prim.Native.Nat.{ℕ, _+_, _-_, _/_}
 use native.Mathlib.Omega.{arith}
 use borrow.Author.Needs.{needs}
-use mathlib.Core.Path.{_≡_, refl, sym, ap, _∙_}
-use mathlib.Core.Bool.{Bool, not}
-use lib.Seq.{slice}
-use Rattle.lists.specs.Places.{leading}
-use Rattle.lists.proofs.StepLaws.{leading-on, leading-stops, leading-end}
+use mathlib.Core.Path.{sym, _∙_}
+use Rattle.lists.proofs.HalvesLaws.{Halving, halving-starts, halving-passed, halving-failed, halving-ends}
 use Rattle.slots.specs.Slots.{comesBefore}
 use Rattle.slots.proofs.SlotLaws.{comparison-asked}
 use Rattle.slots.proofs.insertion.place.Statement.{statement}
 use Rattle.slots.proofs.insertion.place.Tie as tie
 
 abbrev Inv-loop : tie.InvT-loop
-Inv-loop clocks order from to clock slot at₀ at =
-    (from ≤ at) × (at ≤ to)
-    × (at + leading (λ t. not (comesBefore clocks clock slot t)) (slice at to order)
-    ≡ from + leading (λ t. not (comesBefore clocks clock slot t)) (slice from to order))
+Inv-loop clocks order from to clock slot low₀ high₀ low high = Halving (comesBefore clocks clock slot) order 0 from to low high
 
 abbrev μ-loop : tie.MeasureT-loop
-μ-loop clocks order from to clock slot at₀ at = to - at
+μ-loop clocks order from to clock slot low₀ high₀ low high = high - low
+
+-- the place that a turn looks at
+abbrev middle : ℕ → ℕ → ℕ
+middle low high = low + (high - low) / 2
 
 loop-holds : tie.Need-loop-holds Inv-loop μ-loop
-loop-holds c = (omega arith, omega arith, refl)
+loop-holds c = halving-starts _ _ _ _ _ (c .pre .order .part .rising)
+
+sub-middle : tie.Need-sub-middle Inv-loop μ-loop
+sub-middle c = search needs
+
+add-middle : tie.Need-add-middle Inv-loop μ-loop
+add-middle c = search needs
 
 mul-t : tie.Need-mul-t Inv-loop μ-loop
 mul-t c = search needs
@@ -32,25 +36,9 @@ element-copy-out-t c = search needs
 
 comes-before-requires : tie.Need-comes-before-requires Inv-loop μ-loop
 comes-before-requires c κs =
-    comparison-asked _ _ _ _ (c .before .before .loop .at) (c .before .before .before .pre) (omega arith) (omega arith)
-
--- the test of those that the request goes behind
-abbrev behind : tie.Start Inv-loop μ-loop → ℕ → Bool
-behind a t = not (comesBefore (a .args .clocks .now) (a .args .clock) (a .args .slot) t)
-
-returns : tie.Need-returns Inv-loop μ-loop
-returns c =
-    let a = c .before .before .before .before .before in
-    let v = c .before .before .before .before .loop in
-    omega (
-      arith,
-      v .inv .2,
-      leading-stops (behind a) (a .args .order .now) 0 (v .at) (a .args .to) (omega arith) (omega arith)
-          (ap not (sym (c .before .comes-before .ensures) ∙ c .if1 .taken)),
-    )
-
-add-at : tie.Need-add-at Inv-loop μ-loop
-add-at c = search needs
+    let v = c .before .before .loop in
+    comparison-asked _ _ _ _ (middle (v .low) (v .high)) (c .before .before .before .pre .order)
+    (omega (arith, v .inv .first)) (omega (arith, v .inv .last))
 
 loop-less : tie.Need-loop-less Inv-loop μ-loop
 loop-less c = search needs
@@ -58,25 +46,27 @@ loop-less c = search needs
 loop-again : tie.Need-loop-again Inv-loop μ-loop
 loop-again c =
     let a = c .before .before .before .before .before in
-    let v = c .before .before .before .before .loop in (
-      omega arith,
-      omega arith,
-      omega (
-        arith,
-        v .inv .2,
-        leading-on (behind a) (a .args .order .now) 0 (v .at) (a .args .to) (omega arith) (omega arith)
-            (ap not (sym (c .before .comes-before .ensures) ∙ c .if1 .left)),
-      ),
-    )
+    let v = c .before .before .before .before .loop in
+    halving-passed _ _ _ _ _ (a .pre .split) _ _ (v .inv) (middle (v .low) (v .high)) (omega arith) (omega arith)
+    (sym (c .before .comes-before .ensures) ∙ c .if1 .taken)
 
-returns-2 : tie.Need-returns-2 Inv-loop μ-loop
-returns-2 c =
-    let a = c .before .before in
-    let v = c .before .loop in
-    let end : v .at ≡ a .args .to = omega arith in
-    let none : leading (behind a) (slice (v .at) (a .args .to) (a .args .order .now)) ≡ 0 =
-    rw end (leading-end (behind a) (a .args .order .now) (a .args .to)) in
-    omega (arith, v .inv .2)
+add-low : tie.Need-add-low Inv-loop μ-loop
+add-low c = search needs
+
+loop-less-2 : tie.Need-loop-less-2 Inv-loop μ-loop
+loop-less-2 c = search needs
+
+loop-again-2 : tie.Need-loop-again-2 Inv-loop μ-loop
+loop-again-2 c =
+    let a = c .before .before .before .before .before in
+    let v = c .before .before .before .before .loop in
+    halving-failed _ _ _ _ _ (a .pre .split) _ _ (v .inv) (middle (v .low) (v .high)) (omega arith) (omega arith)
+    (sym (c .before .comes-before .ensures) ∙ c .if1 .left)
+
+returns : tie.Need-returns Inv-loop μ-loop
+returns c =
+    let a = c .before .before .pre .order .part in
+    halving-ends _ _ _ _ _ _ _ (c .before .loop .inv) (omega arith) (omega (arith, a))
 
 pub place-spec : {M : Type 1} → statement M
 place-spec =
@@ -85,11 +75,14 @@ place-spec =
     Inv-loop
     μ-loop
     loop-holds
+    sub-middle
+    add-middle
     mul-t
     element-copy-out-t
     comes-before-requires
-    returns
-    add-at
     loop-less
     loop-again
-    returns-2)
+    add-low
+    loop-less-2
+    loop-again-2
+    returns)

@@ -1,0 +1,4 @@
+-- Laws of all due steps: of a state, then of every panel with the parts lent.
+pub mod OwnLaws
+pub mod DueLaws
+pub mod DueParts

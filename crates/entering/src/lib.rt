@@ -1,0 +1,307 @@
+// The calls that bring a request, invoke and deliver.
+use creek::Answer;
+use creek::Invocation;
+use creek::mark::NOBODY;
+use numbers::Clock;
+use numbers::EventNo;
+use numbers::Number;
+use numbers::PanelNo;
+use replica::CallResult;
+use replica::Core;
+use request::Request;
+use request::operations as operation;
+use request::refusal;
+use sets::Context;
+use slots::common;
+use slots::insertion;
+use slots::later;
+use store::members;
+use store::requests;
+ghost use mathlib.Core.Path.{_≡_};
+ghost use mathlib.Core.Option.{some};
+ghost use lib.Seq.{slice};
+ghost use Rattle.sets.specs.Sets.{setOf};
+ghost use Rattle.slots.specs.Slots.{OrderAsks};
+ghost use Rattle.creek.specs.Plan.{knownWith, atLeast, heldRefusal};
+ghost use Rattle.creek.specs.Replies.{spread as spreadAnswer, done as doneAnswer};
+ghost use Rattle.entering.specs.Entering.{Asked, contextFor, requestFor, judged, EnterAsks, EnterKept};
+ghost use Rattle.entering.specs.Entering.{DeliverAsks, DeliverKept, InvokeAsks, InvokeKept};
+
+// A request is made: it enters as one that is heard does, awaits a reply, and is to be spread to the other panels. One made with a lower
+// clock takes the reading of the last own request.
+pub fn invoke<'a>(
+    core: Core,
+    held: &mut [u64; 8],
+    known: &mut [u64; 8],
+    awaiting: &mut [u64; 8],
+    clocks: &mut [u32; 512],
+    operations: &mut [u64; 512],
+    contexts: &mut [u64; 4096],
+    order: &mut [u16; 512],
+    stack: &'a [u16; 512],
+    i: Invocation,
+) -> CallResult
+    requires { ⌜ InvokeAsks core (now held) (now known) (now awaiting) (now clocks) (now operations) (now contexts) (now order) (now stack) ⌝ }
+    ensures { λ r. ⌜ InvokeKept core (now (held .entry)) (now (known .entry)) (now (awaiting .entry)) (now (clocks .entry))
+        (now (operations .entry)) (now (contexts .entry)) (now (order .entry)) (now (stack .entry)) i
+        (now (held .exit)) (now (known .exit)) (now (awaiting .exit)) (now (clocks .exit)) (now (operations .exit)) (now (contexts .exit))
+        (now (order .exit)) r ⌝ }
+{
+    let word = ask(core.events, i);
+    if word != refusal::ACCEPTED {
+        let answer = replica::refused(word);
+        return CallResult { core, answer };
+    }
+    let raised = at_least(core.clock, i);
+    let event = core.events + 1;
+    let own = core.own;
+    let number = Number {
+        panel: own,
+        event: EventNo(event),
+    };
+    let slot = numbers::slot_of(number);
+    let words = *known;
+    let context = context_for(
+        raised,
+        Context { words },
+        clocks,
+        order,
+        core.committed,
+        core.ordered,
+        slot,
+    );
+    let x = request_for(number, raised, context);
+    let executed = enter(
+        core,
+        held,
+        known,
+        clocks,
+        operations,
+        contexts,
+        order,
+        stack,
+        slot,
+        x,
+    );
+    members::join(awaiting, number);
+    let clock = raised.clock;
+    let mut after = core;
+    after.ordered = core.ordered + 1;
+    after.executed = executed;
+    after.events = event;
+    after.clock = clock;
+    let answer = spread(x);
+    CallResult {
+        core: after,
+        answer,
+    }
+}
+
+// x, whose slot that is, enters at its place of the order, and what is executed behind that place is to be rolled back: how much of the
+// executed list stays.
+fn enter<'a>(
+    core: Core,
+    held: &mut [u64; 8],
+    known: &mut [u64; 8],
+    clocks: &mut [u32; 512],
+    operations: &mut [u64; 512],
+    contexts: &mut [u64; 4096],
+    order: &mut [u16; 512],
+    stack: &'a [u16; 512],
+    slot: u16,
+    x: Request,
+) -> usize
+    requires { ⌜ EnterAsks core (now held) (now known) (now clocks) (now operations) (now contexts) (now order) (now stack) slot x ⌝ }
+    ensures { λ k. ⌜ EnterKept core (now (held .entry)) (now (known .entry)) (now (clocks .entry)) (now (operations .entry))
+        (now (contexts .entry)) (now (order .entry)) (now (stack .entry)) x
+        (now (held .exit)) (now (known .exit)) (now (clocks .exit)) (now (operations .exit)) (now (contexts .exit)) (now (order .exit)) k ⌝ }
+{
+    let n = core.ordered;
+    let number = x.number;
+    let at = insertion::place(clocks, order, core.committed, n, x.clock.0, slot);
+    insertion::insert_at(order, n, at, slot);
+    members::join(held, number);
+    know(known, x.strong, number);
+    requests::put_request(clocks, operations, contexts, slot, x);
+    // What is executed agrees with the order up to the place of x.
+    let same = replica::lower(core.executed, at);
+    common::common_start(stack, core.executed, order, n + 1, same)
+}
+
+// The refusals of an invocation after an own request of that event: bad operation, shift full.
+fn ask(events: u8, i: Invocation) -> u8
+    ensures { λ w. ⌜ Asked events i w ⌝ }
+{
+    if operation::bad(i.operation) {
+        return refusal::BAD_OPERATION;
+    }
+    if numbers::MOST_EVENTS <= events {
+        return refusal::SHIFT_FULL;
+    }
+    refusal::ACCEPTED
+}
+
+// i with its clock reading or, where that is lower, with the last one.
+fn at_least(last: Clock, i: Invocation) -> Invocation
+    ensures { λ j. ⌜ j ≡ atLeast (last .0) i ⌝ }
+{
+    if last.0 <= i.clock.0 {
+        return i;
+    }
+    let operation = i.operation;
+    Invocation {
+        operation,
+        strong: i.strong,
+        clock: last,
+    }
+}
+
+// The context of the request that i asks for, in that slot: where it is strong, the known set without the later ones of the tentative
+// requests, which stand at the places from..to of the order.
+fn context_for<'a>(
+    i: Invocation,
+    known: Context,
+    clocks: &'a [u32; 512],
+    order: &'a [u16; 512],
+    from: usize,
+    to: usize,
+    slot: u16,
+) -> Context
+    requires { ⌜ OrderAsks (now clocks) (now order) from to ⌝ }
+    ensures { λ c. ⌜ c ≡ contextFor i known (now (clocks .entry)) slot (slice from to (now (order .entry))) ⌝ }
+{
+    if i.strong {
+        return later::without_later(known, clocks, order, from, to, i.clock.0, slot);
+    }
+    sets::empty()
+}
+
+// The request of that number that i asks for, with that context.
+fn request_for(number: Number, i: Invocation, context: Context) -> Request
+    ensures { λ x. ⌜ x ≡ requestFor number i context ⌝ }
+{
+    let clock = i.clock;
+    let operation = i.operation;
+    Request {
+        number,
+        clock,
+        operation,
+        strong: i.strong,
+        context,
+    }
+}
+
+// The answer that x is to be spread.
+fn spread(x: Request) -> Answer
+    ensures { λ a. ⌜ a ≡ spreadAnswer x ⌝ }
+{
+    Answer {
+        refusal: refusal::ACCEPTED,
+        request: x,
+        number: Number {
+            panel: PanelNo(0),
+            event: EventNo(0),
+        },
+        response: 0,
+        mark: NOBODY,
+    }
+}
+
+// A request of another panel is heard: it enters, unless it is refused.
+pub fn deliver<'a>(
+    core: Core,
+    held: &mut [u64; 8],
+    known: &mut [u64; 8],
+    clocks: &mut [u32; 512],
+    operations: &mut [u64; 512],
+    contexts: &mut [u64; 4096],
+    order: &mut [u16; 512],
+    stack: &'a [u16; 512],
+    x: Request,
+) -> CallResult
+    requires { ⌜ DeliverAsks core (now held) (now known) (now clocks) (now operations) (now contexts) (now order) (now stack) ⌝ }
+    ensures { λ r. ⌜ DeliverKept core (now (held .entry)) (now (known .entry)) (now (clocks .entry)) (now (operations .entry))
+        (now (contexts .entry)) (now (order .entry)) (now (stack .entry)) x
+        (now (held .exit)) (now (known .exit)) (now (clocks .exit)) (now (operations .exit)) (now (contexts .exit)) (now (order .exit)) r ⌝ }
+{
+    let word = judge(core.panels, core.own, x);
+    if word != refusal::ACCEPTED {
+        let answer = replica::refused(word);
+        return CallResult { core, answer };
+    }
+    let slot = numbers::slot_of(x.number);
+    if members::member(held, x.number) {
+        let there = requests::request_at(clocks, operations, contexts, slot);
+        let answer = replica::refused(held_refusal(there, x));
+        return CallResult { core, answer };
+    }
+    let executed = enter(
+        core,
+        held,
+        known,
+        clocks,
+        operations,
+        contexts,
+        order,
+        stack,
+        slot,
+        x,
+    );
+    let mut after = core;
+    after.ordered = core.ordered + 1;
+    after.executed = executed;
+    let answer = done();
+    CallResult {
+        core: after,
+        answer,
+    }
+}
+
+// The refusals of a delivery that do not ask what is held: bad number, own echo, bad operation, bad context.
+fn judge(panels: u8, own: PanelNo, x: Request) -> u8
+    ensures { λ w. ⌜ w ≡ judged panels (own .0) x ⌝ }
+{
+    if numbers::bad(panels, x.number) {
+        return refusal::BAD_NUMBER;
+    }
+    if x.number.panel.0 == own.0 {
+        return refusal::OWN_ECHO;
+    }
+    if operation::bad(x.operation) {
+        return refusal::BAD_OPERATION;
+    }
+    if request::bad_context(panels, x) {
+        return refusal::BAD_CONTEXT;
+    }
+    refusal::ACCEPTED
+}
+
+// The refusal of x where y is held under its number.
+fn held_refusal(y: Request, x: Request) -> u8
+    ensures { λ w. ⌜ w ≡ heldRefusal (some y) x ⌝ }
+{
+    if request::same(y, x) {
+        return refusal::HELD_ALREADY;
+    }
+    refusal::NUMBER_CLASH
+}
+
+// The answer of an accepted call that names no request.
+fn done() -> Answer
+    ensures { λ a. ⌜ a ≡ doneAnswer ⌝ }
+{
+    let none = Number {
+        panel: PanelNo(0),
+        event: EventNo(0),
+    };
+    replica::reply(none, 0, NOBODY)
+}
+
+// Puts the number n into the known set, where a request of that strength is known as soon as it enters.
+fn know(known: &mut [u64; 8], strong: bool, n: Number)
+    ensures { λ _. ⌜ setOf (now (known .exit)) ≡ knownWith (setOf (now (known .entry))) strong n ⌝ }
+{
+    if !strong {
+        members::join(known, n);
+    }
+}

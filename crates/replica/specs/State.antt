@@ -1,0 +1,147 @@
+-- A panel's memory as one record, of which the contracts speak, and what its calls lead to.
+use Prim.Native.Nat.{ℕ, _+_}
+use mathlib.Core.List.{List}
+use Rattle.counters.specs.declared.Counters.{Counters}
+use Rattle.numbers.specs.declared.PanelNo.{PanelNo}
+use Rattle.numbers.specs.declared.Clock.{Clock}
+use Rattle.numbers.specs.Numbers.{clockReading}
+use Rattle.sets.specs.declared.Context.{Context}
+use Rattle.sets.specs.Sets.{setOf}
+use Rattle.creek.specs.declared.Answer.{Answer}
+use Rattle.replica.specs.declared.Core.{Core}
+
+-- ---- the memory
+
+-- the core's numbers, the step counters, the sets of numbers and the arrays
+pub record State : Type 0 where
+  pub panels : ℕ
+  pub own : PanelNo
+  pub events : ℕ
+  pub clock : Clock
+  pub committed : ℕ
+  pub ordered : ℕ
+  pub executed : ℕ
+  pub stacked : ℕ
+  pub commits : ℕ
+  pub counters : Counters
+  pub held : Context
+  pub known : Context
+  pub awaiting : Context
+  pub clocks : List ℕ
+  pub operations : List ℕ
+  pub contexts : List ℕ
+  pub order : List ℕ
+  pub stack : List ℕ
+  pub registers : List ℕ
+  pub saved : List ℕ
+  pub responses : List ℕ
+
+-- the memory of a panel with that core, those counters and those arrays
+abbrev pub packed : Core → Counters → (held known awaiting clocks operations contexts order stack registers saved responses : List ℕ) → State
+packed core counters held known awaiting clocks operations contexts order stack registers saved responses = record {
+  panels = core .panels;
+  own = core .own;
+  events = core .events;
+  clock = core .clock;
+  committed = core .committed;
+  ordered = core .ordered;
+  executed = core .executed;
+  stacked = core .stacked;
+  commits = core .commits;
+  counters = counters;
+  held = setOf held;
+  known = setOf known;
+  awaiting = setOf awaiting;
+  clocks = clocks;
+  operations = operations;
+  contexts = contexts;
+  order = order;
+  stack = stack;
+  registers = registers;
+  saved = saved;
+  responses = responses;
+}
+
+-- the core of a panel's memory
+abbrev pub coreIn : State → Core
+coreIn p = record {
+  panels = p .panels;
+  own = p .own;
+  events = p .events;
+  clock = p .clock;
+  committed = p .committed;
+  ordered = p .ordered;
+  executed = p .executed;
+  stacked = p .stacked;
+  commits = p .commits;
+}
+
+-- ---- cores
+
+-- that of a shift's first moment
+abbrev pub firstCore : ℕ → PanelNo → Core
+firstCore panels own = record {
+  panels = panels;
+  own = own;
+  events = 0;
+  clock = clockReading 0;
+  committed = 0;
+  ordered = 0;
+  executed = 0;
+  stacked = 0;
+  commits = 0;
+}
+
+-- with those counts of the executed list and of the board
+abbrev pub withBoard : Core → ℕ → ℕ → Core
+withBoard core executed stacked = record {
+  panels = core .panels;
+  own = core .own;
+  events = core .events;
+  clock = core .clock;
+  committed = core .committed;
+  ordered = core .ordered;
+  executed = executed;
+  stacked = stacked;
+  commits = core .commits;
+}
+
+-- with one request more, so much of the executed list kept, and that last own event and clock reading
+abbrev pub withEntered : Core → ℕ → ℕ → Clock → Core
+withEntered core executed events clock = record {
+  panels = core .panels;
+  own = core .own;
+  events = events;
+  clock = clock;
+  committed = core .committed;
+  ordered = core .ordered + 1;
+  executed = executed;
+  stacked = core .stacked;
+  commits = core .commits;
+}
+
+-- with one settlement more, so many committed and so much of the executed list kept
+abbrev pub withSettled : Core → ℕ → ℕ → Core
+withSettled core committed executed = record {
+  panels = core .panels;
+  own = core .own;
+  events = core .events;
+  clock = core .clock;
+  committed = committed;
+  ordered = core .ordered;
+  executed = executed;
+  stacked = core .stacked;
+  commits = core .commits + 1;
+}
+
+-- ---- what the calls lead to
+
+-- fresh: its refusal, and the state of a shift's first moment
+pub record Opened : Type 0 where
+  pub refusal : ℕ
+  pub state : State
+
+-- a call: its answer, and the state after it
+pub record Called : Type 0 where
+  pub answer : Answer
+  pub state : State

@@ -1,0 +1,158 @@
+-- Why a settlement is refused, by what the state keeps, and what acceptance says.
+use Prim.Native.Nat.{ℕ}
+use native.Mathlib.Omega.{arith}
+use mathlib.Core.Path.{_≡_, refl, sym, ap, _∙_}
+use mathlib.Core.Bool.{Bool, true, false, not, cond}
+use mathlib.Core.Option.{some}
+use lib.Dec.{eqb}
+use borrow.Author.Tests.{not-false}
+use Rattle.numbers.specs.declared.Number.{Number}
+use Rattle.numbers.specs.Numbers.{noNumber, badNumber, slotOf}
+use Rattle.sets.specs.Sets.{member, subset, lowestLacking}
+use Rattle.request.specs.Refusal as refused
+use Rattle.lists.specs.Lists.{find}
+use Rattle.creek.specs.declared.Answer.{Answer}
+use Rattle.creek.specs.Plan.{met, hasNumber, held, isCommitted, foundRefusal, commitRefusal}
+use Rattle.creek.specs.Book.{commit, refusal}
+use Rattle.creek.specs.Replies.{refusedWith, missing, namedByRefusal}
+use Rattle.creek.proofs.PlanLaws.{passed}
+use Rattle.replica.specs.State.{State}
+use Rattle.store.specs.Requests.{requestAt}
+use Rattle.replica.specs.Model.{planOf, bookOf, Inv, Kept}
+use Rattle.settling.specs.Settling.{numberRefusal, heldAnswer}
+use Rattle.replica.proofs.KeptLaws.{kept-refused}
+use Rattle.settling.proofs.SettlingHeldLaws.{keptAt, strongAt, contextAt, sound-plan, good-widened, HeldAt, held-request}
+use Rattle.replica.proofs.RequestLaws.{held-none}
+use Rattle.settling.proofs.SettlingHeldLaws.{found-tentative, committed-is-known}
+
+module _ (p : State) (n : Number) where
+  -- the call, once its first test is passed
+  not-bad : badNumber (p .panels) n ≡ false → refusal (bookOf p) (commit n) ≡ foundRefusal (planOf p) n (held (planOf p) n)
+  unfolding refusal commitRefusal bookOf planOf
+  not-bad e = rw e
+
+  -- a refusal names no number, but for 12
+  names-none : (word : ℕ) → refusal (bookOf p) (commit n) ≡ word → eqb word refused.waits ≡ false
+      → namedByRefusal (bookOf p) (commit n) ≡ noNumber
+  unfolding namedByRefusal
+  names-none word e other = rw (e, other)
+
+  bad-refused : badNumber (p .panels) n ≡ true → refusal (bookOf p) (commit n) ≡ refused.badNumber
+  unfolding refusal commitRefusal bookOf planOf
+  bad-refused e = rw e
+
+  absent-refused : Inv p → badNumber (p .panels) n ≡ false → member (p .held) n ≡ false
+      → refusal (bookOf p) (commit n) ≡ refused.notHere
+  absent-refused inv e f = not-bad e ∙ ap (foundRefusal (planOf p) n) (held-none _ inv n (good-widened inv e) f)
+
+-- ---- by the number alone
+
+module _ {p : State} {n : Number} (inv : Inv p) where
+  pub kept-by-number : {word : ℕ} {a : Answer} → word ≡ numberRefusal (p .panels) (p .held) n → (word ≡ refused.accepted → ⊥)
+      → a ≡ refusedWith word noNumber → Kept p (commit n) (record { answer = a; state = p })
+  unfolding numberRefusal
+  kept-by-number {word} {a} e out answered = go (badNumber (p .panels) n) (member (p .held) n) refl refl e
+    where
+      kept : refusal (bookOf p) (commit n) ≡ word → eqb word refused.waits ≡ false → Kept p (commit n) (record { answer = a; state = p })
+      kept r other = kept-refused p (commit n) word a inv r out (answered ∙ ap (refusedWith word) (sym (names-none p n word r other)))
+
+      go : (bad here : Bool) → badNumber (p .panels) n ≡ bad → member (p .held) n ≡ here
+          → word ≡ met bad refused.badNumber (met (not here) refused.notHere refused.accepted)
+          → Kept p (commit n) (record { answer = a; state = p })
+      go true here b h w = kept (bad-refused p n b ∙ sym w) (ap (λ (k : ℕ). eqb k refused.waits) w)
+      go false false b h w = kept (absent-refused p n inv b h ∙ sym w) (ap (λ (k : ℕ). eqb k refused.waits) w)
+      go false true b h w = absurd (out w)
+
+  -- a number that is not refused is good and held at its slot
+  pub number-passed : {word s : ℕ} → word ≡ numberRefusal (p .panels) (p .held) n → word ≡ refused.accepted → s ≡ slotOf n
+      → HeldAt p n s
+  unfolding numberRefusal
+  number-passed e z at =
+      let good = passed (badNumber (p .panels) n) refused.badNumber _ tt (sym e ∙ z) in
+      let here = passed (not (member (p .held) n)) refused.notHere refused.accepted tt (good .1) in
+      record { slot = at; good = good .0; here = not-false _ (here .0) }
+
+-- ---- by the request that is held
+
+-- the tests of a held request, in order
+abbrev wordOf : Bool → Bool → Bool → ℕ
+wordOf strong known whole =
+    met (not strong) refused.weak (met known refused.settledAlready (met (not whole) refused.waits refused.accepted))
+
+abbrev answerTo : Bool → Bool → Bool → Number → Answer
+answerTo strong known whole m =
+    cond (not strong) (refusedWith refused.weak noNumber)
+    (cond known (refusedWith refused.settledAlready noNumber)
+    (cond (not whole) (refusedWith refused.waits m) (refusedWith refused.accepted noNumber)))
+
+-- the request at slot s is to be settled under the number n: it is strong, it is not known, and its context is
+pub record Settles (p : State) (n : Number) (s : ℕ) : Type 0 where
+  pub strong : strongAt p s ≡ true
+  pub new : member (p .known) n ≡ false
+  pub whole : subset (contextAt p s) (p .known) ≡ true
+
+module _ {p : State} {n : Number} {s : ℕ} (inv : Inv p) (h : HeldAt p n s) where
+  committed-known : strongAt p s ≡ true → isCommitted (planOf p) n ≡ member (p .known) n
+  unfolding requestAt planOf
+  committed-known e = committed-is-known (planOf p) (sound-plan inv) n (keptAt p s) (held-request inv h) e
+
+  -- its whole context is known
+  abbrev whole : Bool
+  whole = subset (contextAt p s) (p .known)
+
+  refusal-held : refusal (bookOf p) (commit n) ≡ wordOf (strongAt p s) (member (p .known) n) (subset (contextAt p s) (p .known))
+  unfolding requestAt planOf
+  refusal-held = not-bad p n (h .good) ∙ ap (foundRefusal (planOf p) n) (held-request inv h) ∙ go (strongAt p s) refl
+    where
+      go : (b : Bool) → strongAt p s ≡ b
+          → wordOf b (isCommitted (planOf p) n) whole ≡ wordOf b (member (p .known) n) whole
+      go true e = ap (λ (t : Bool). wordOf true t whole) (committed-known e)
+      go false e = refl
+
+  -- the number that refusal 12 names
+  names-missing : refusal (bookOf p) (commit n) ≡ refused.waits
+      → namedByRefusal (bookOf p) (commit n) ≡ lowestLacking (contextAt p s) (p .known)
+  unfolding namedByRefusal requestAt bookOf planOf
+  names-missing e = rw e (ap (missing (planOf p)) (held-request inv h))
+
+  module _ {a : Answer} (answered : a ≡ heldAnswer (strongAt p s) (contextAt p s) (p .known) n) where
+    pub kept-by-held : (a .refusal ≡ refused.accepted → ⊥) → Kept p (commit n) (record { answer = a; state = p })
+    unfolding heldAnswer
+    kept-by-held out = go (strongAt p s) (member (p .known) n) whole answered refusal-held
+      where
+        kept : (word : ℕ) (m : Number) → a ≡ refusedWith word m → refusal (bookOf p) (commit n) ≡ word
+            → namedByRefusal (bookOf p) (commit n) ≡ m → Kept p (commit n) (record { answer = a; state = p })
+        kept word m e r names =
+            kept-refused p (commit n) word a inv r (λ z. out (ap (λ (b : Answer). b .refusal) e ∙ z))
+            (e ∙ ap (refusedWith word) (sym names))
+
+        go : (strong known whole : Bool) → a ≡ answerTo strong known whole (lowestLacking (contextAt p s) (p .known))
+            → refusal (bookOf p) (commit n) ≡ wordOf strong known whole → Kept p (commit n) (record { answer = a; state = p })
+        go false known whole e r = kept refused.weak noNumber e r (names-none p n refused.weak r refl)
+        go true true whole e r = kept refused.settledAlready noNumber e r (names-none p n refused.settledAlready r refl)
+        go true false false e r = kept refused.waits _ e r (names-missing r)
+        go true false true e r = absurd (out (ap (λ (b : Answer). b .refusal) e))
+
+    pub settles : a .refusal ≡ refused.accepted → Settles p n s
+    unfolding heldAnswer
+    settles z =
+        go (strongAt p s) (member (p .known) n) whole refl refl refl (ap (λ (b : Answer). b .refusal) (sym answered) ∙ z)
+      where
+        go : (strong known whole : Bool) → strongAt p s ≡ strong → member (p .known) n ≡ known → subset (contextAt p s) (p .known) ≡ whole
+            → answerTo strong known whole (lowestLacking (contextAt p s) (p .known)) .refusal ≡ refused.accepted → Settles p n s
+        go false known whole es ek ew e = absurd (omega arith)
+        go true true whole es ek ew e = absurd (omega arith)
+        go true false false es ek ew e = absurd (omega arith)
+        go true false true es ek ew e = record { strong = es; new = ek; whole = ew }
+
+  -- ---- accepted
+
+  module _ (t : Settles p n s) where
+    pub settlement-accepted : refusal (bookOf p) (commit n) ≡ refused.accepted
+    settlement-accepted = refusal-held ∙ rw (t .strong, t .new, t .whole)
+
+    -- it is among the tentative requests
+    pub tentative-found : find (hasNumber n) (planOf p .tentative) ≡ some (keptAt p s)
+    unfolding requestAt planOf
+    tentative-found =
+        found-tentative (planOf p) (sound-plan inv) n (keptAt p s) (held-request inv h) (t .strong) (committed-known (t .strong) ∙ t .new)

@@ -1,0 +1,237 @@
+-- `settling::commit` meets its contract; the outcome is in `SettlingLaws`, the refusals in `SettlingRefusalLaws`.
+use Prim.Native.Nat.{_≤_}
+use native.Mathlib.Omega.{arith}
+use mathlib.Core.Path.{_≡_, refl, ap, _∙_}
+use mathlib.Core.Bool.{Bool, _&&_}
+use lib.ListN.{getD}
+use lib.Dec.{leb}
+use Rattle.slots.specs.Slots.{IsSlot}
+use Rattle.slots.specs.Settlement.{Settled}
+use Rattle.store.specs.Requests.{strongIn, contextAt}
+use Rattle.sets.specs.Sets.{setOf}
+use Rattle.slots.proofs.SettlementLaws.{committed-inside}
+use Rattle.creek.specs.Sound.{mostRequests}
+use Rattle.replica.specs.State.{State}
+use Rattle.replica.specs.Model.{Inv}
+use Rattle.settling.specs.Settling.{heldAnswer, commitParts}
+use Rattle.settling.proofs.SettlingHeldLaws.{HeldAt, held-slot}
+use Rattle.settling.proofs.SettlingRefusalLaws.{kept-by-number, number-passed, Settles, kept-by-held, settles}
+use Rattle.settling.proofs.SettlingLaws.{commits-fit, commit-asks, start-asks, settled-kept}
+use borrow.Author.Needs.{needs}
+use Rattle.settling.proofs.commit.Statement.{statement}
+use Rattle.settling.proofs.commit.Tie as tie
+
+-- ---- the places of the call
+
+-- its start, from where the slot is known
+abbrev start : tie.After-slot-of → tie.Start
+start c = c .before .before .before
+
+-- where the context is read, from past both tests
+abbrev read : tie.Else2 → tie.After-context-at
+read c = c .before .before .before .before
+
+abbrev slotted : tie.Else2 → tie.After-slot-of
+slotted c = read c .before .before
+
+-- past both tests, from where the order is settled
+abbrev tested : tie.After-settle-order → tie.Else2
+tested c = c .before .before .before .before
+
+-- where the order is settled, from where it is compared with the executed list
+abbrev settled : tie.After-common-start → tie.After-settle-order
+settled c = c .before .before .before
+
+-- a panel with the parts lent
+abbrev lent : tie.Start → State → State
+lent a p =
+    commitParts p (a .args .core) (a .args .held .now) (a .args .known .now) (a .args .awaiting .now) (a .args .operations .now)
+    (a .args .contexts .now) (a .args .order .now) (a .args .stack .now) (a .args .responses .now)
+
+-- ---- what is known there
+
+-- past the first test the number is held at the slot
+held-at : (c : tie.After-slot-of) (p : State) → Inv (lent (start c) p) → HeldAt (lent (start c) p) (start c .args .n) (c .slot-of .result)
+held-at c p inv =
+    number-passed {p = lent (start c) p} inv (c .before .before .number-refusal .ensures) (c .before .if1 .left) (c .slot-of .ensures)
+
+slot-of-is : (c : tie.After-slot-of) → IsSlot (c .slot-of .result)
+slot-of-is c = let a = start c in held-slot {p = lent a (a .pre .panel)} (a .pre .invariant) (held-at c (a .pre .panel) (a .pre .invariant))
+
+-- the answer by what is kept at the slot
+answer-is : (c : tie.After-held-answer)
+    → let at = c .before .before in
+    let slot = at .before .before in
+    let a = start slot in
+    c .held-answer .result
+    ≡ heldAnswer (strongIn (getD (a .args .operations .now) (slot .slot-of .result) 0)) (contextAt (a .args .contexts .now) (slot .slot-of .result))
+    (setOf (a .args .known .now)) (a .args .n)
+answer-is c =
+    let at = c .before .before in
+    c .held-answer .ensures ∙ rw (at .before .strong-at .ensures, at .context-at .ensures)
+
+-- past the second it is to be settled
+to-settle : (c : tie.Else2) (p : State) → let slot = slotted c in Inv (lent (start slot) p)
+    → Settles (lent (start slot) p) (start slot .args .n) (slot .slot-of .result)
+to-settle c p inv =
+    let slot = slotted c in
+    settles {p = lent (start slot) p} inv (held-at slot p inv) (answer-is (c .before .before)) (c .if2 .left)
+
+-- the order is settled with the context that is kept
+settled-by : (c : tie.After-settle-order)
+    → let slot = slotted (tested c) in
+    let a = start slot in
+    Settled (a .args .order .now) (a .args .core .committed) (a .args .core .ordered)
+    (contextAt (a .args .contexts .now) (slot .slot-of .result) .words) (slot .slot-of .result) (c .settle-order .last .0) (c .settle-order .result)
+settled-by c = rw (read (tested c) .context-at .ensures) at (c .settle-order .ensures)
+
+-- how many are committed afterwards
+committed-fits : (c : tie.After-settle-order) → c .settle-order .result ≤ mostRequests
+committed-fits c =
+    let slot = slotted (tested c) in
+    let a = start slot in
+    let inv = a .pre .invariant in
+    omega (
+      arith,
+      committed-inside _ _ _ _ _ _ _
+          (commit-asks {p = lent a (a .pre .panel)} inv (held-at slot (a .pre .panel) inv) (to-settle (tested c) (a .pre .panel) inv)) (settled-by c),
+      inv .counts,
+    )
+
+-- ---- what the function needs
+
+number-refusal-requires : tie.Need-number-refusal-requires
+number-refusal-requires c κs = search needs
+
+refused-requires : tie.Need-refused-requires
+refused-requires c κs = search needs
+
+returns : tie.Need-returns
+returns c =
+    let a = c .before .before .before in
+    record {
+      kept = λ p inv. kept-by-number {p = lent a p} inv (c .before .before .number-refusal .ensures) (c .before .if1 .taken) (c .refused .ensures);
+    }
+
+slot-of-requires : tie.Need-slot-of-requires
+slot-of-requires c κs = search needs
+
+cast-strong-at : tie.Need-cast-strong-at
+cast-strong-at c = search needs
+
+strong-at-requires : tie.Need-strong-at-requires
+strong-at-requires c κs = slot-of-is c
+
+cast-context-at : tie.Need-cast-context-at
+cast-context-at c = search needs
+
+context-at-requires : tie.Need-context-at-requires
+context-at-requires c κs = let slot = c .before in (slot-of-is slot, start slot .pre .invariant .lengths .requests .contexts)
+
+held-answer-requires : tie.Need-held-answer-requires
+held-answer-requires c κs = search needs
+
+returns-2 : tie.Need-returns-2
+returns-2 c =
+    let found = c .before .before in
+    let slot = found .before .before .before .before in
+    record {
+      kept = λ p inv. kept-by-held {p = lent (start slot) p} inv (held-at slot p inv) (answer-is found) (c .if2 .taken);
+    }
+
+settle-order-requires : tie.Need-settle-order-requires
+settle-order-requires c κs =
+    let else = c .before .before .before in
+    let slot = slotted else in
+    let a = start slot in
+    rw (read else .context-at .ensures)
+    (commit-asks {p = lent a (a .pre .panel)} (a .pre .invariant) (held-at slot (a .pre .panel) (a .pre .invariant))
+    (to-settle else (a .pre .panel) (a .pre .invariant)))
+
+lower-requires : tie.Need-lower-requires
+lower-requires c κs = search needs
+
+common-start-requires : tie.Need-common-start-requires
+common-start-requires c κs =
+    let order = c .before .before in
+    let else = tested order in
+    let slot = slotted else in
+    let a = start slot in
+    start-asks {p = lent a (a .pre .panel)} (a .pre .invariant) (held-at slot (a .pre .panel) (a .pre .invariant))
+    (to-settle else (a .pre .panel) (a .pre .invariant)) (settled-by order) (c .before .lower .ensures)
+
+sub-response : tie.Need-sub-response
+sub-response c = search needs
+
+mul-response : tie.Need-mul-response
+mul-response c = omega (arith, committed-fits (settled c))
+
+element-copy-out-response : tie.Need-element-copy-out-response
+element-copy-out-response c = omega (arith, committed-fits (settled c), settled c .settle-order .ensures .committed)
+
+member-requires : tie.Need-member-requires
+member-requires c κs = search needs
+
+join-requires : tie.Need-join-requires
+join-requires c κs = search needs
+
+end-waiting-requires : tie.Need-end-waiting-requires
+end-waiting-requires c κs = search needs
+
+add-after : tie.Need-add-after
+add-after c =
+    let adjusted = c .before .before .before .before .before .before .before .before in
+    let a = start (slotted (tested (settled adjusted))) in
+    omega (arith, commits-fit (lent a (a .pre .panel)) (a .pre .invariant))
+
+settled-answer-requires : tie.Need-settled-answer-requires
+settled-answer-requires c κs = search needs
+
+returns-3 : tie.Need-returns-3
+returns-3 c =
+    let left = c .before .before in
+    let joined = left .before .before in
+    let awaited = joined .before .before in
+    let adjusted = awaited .before .before .before in
+    let order = settled adjusted in
+    let slot = slotted (tested order) in
+    let a = start slot in
+    record {
+      kept = λ p inv.
+          settled-kept {p = lent a p} inv (held-at slot p inv) (to-settle (tested order) p inv)
+          (settled-by order)
+          (adjusted .before .before .lower .ensures)
+          (adjusted .common-start .ensures)
+          refl
+          (ap (λ (b : Bool). b && leb (order .settle-order .result) (adjusted .common-start .result)) (awaited .member .ensures))
+          (joined .join .ensures)
+          (left .end-waiting .ensures)
+          (c .settled-answer .ensures);
+    }
+
+pub commit-spec : {M : Type 1} → statement M
+commit-spec =
+    tie.close
+    (tie.spec
+    number-refusal-requires
+    refused-requires
+    returns
+    slot-of-requires
+    cast-strong-at
+    strong-at-requires
+    cast-context-at
+    context-at-requires
+    held-answer-requires
+    returns-2
+    settle-order-requires
+    lower-requires
+    common-start-requires
+    sub-response
+    mul-response
+    element-copy-out-response
+    member-requires
+    join-requires
+    end-waiting-requires
+    add-after
+    settled-answer-requires
+    returns-3)

@@ -1,0 +1,144 @@
+// Settle: a held strong request is committed, and with it, before it, the tentative requests that its context names.
+use creek::Answer;
+use creek::mark::NOBODY;
+use creek::mark::STABLE;
+use numbers::EventNo;
+use numbers::Number;
+use numbers::PanelNo;
+use replica::CallResult;
+use replica::Core;
+use request::refusal;
+use sets::Context;
+use slots::common;
+use slots::settlement;
+use store::members;
+use store::requests;
+ghost use mathlib.Core.Path.{_≡_};
+ghost use Rattle.sets.specs.Sets.{setOf};
+ghost use Rattle.request.specs.Refusal as refusedBy;
+ghost use Rattle.creek.specs.Replies.{refusedWith};
+ghost use Rattle.settling.specs.Settling.{numberRefusal, heldAnswer, settledAnswer, awaitingSettled, CommitAsks, CommitKept};
+
+// Settle the request of number n.
+pub fn commit<'a>(
+    core: Core,
+    held: &'a [u64; 8],
+    known: &mut [u64; 8],
+    awaiting: &mut [u64; 8],
+    operations: &'a [u64; 512],
+    contexts: &'a [u64; 4096],
+    order: &mut [u16; 512],
+    stack: &'a [u16; 512],
+    responses: &'a [u32; 512],
+    n: Number,
+) -> CallResult
+    requires { ⌜ CommitAsks core (now held) (now known) (now awaiting) (now operations) (now contexts) (now order) (now stack)
+        (now responses) ⌝ }
+    ensures { λ r. ⌜ CommitKept core (now (held .entry)) (now (known .entry)) (now (awaiting .entry)) (now (operations .entry))
+        (now (contexts .entry)) (now (order .entry)) (now (stack .entry)) (now (responses .entry)) n
+        (now (known .exit)) (now (awaiting .exit)) (now (order .exit)) r ⌝ }
+{
+    let word = number_refusal(core.panels, held, n);
+    if word != refusal::ACCEPTED {
+        let answer = replica::refused(word);
+        return CallResult { core, answer };
+    }
+    let slot = numbers::slot_of(n);
+    let strong = requests::strong_at(operations, slot as usize);
+    let context = requests::context_at(contexts, slot as usize);
+    let knows = *known;
+    let answer = held_answer(strong, context, Context { words: knows }, n);
+    if answer.refusal != refusal::ACCEPTED {
+        return CallResult { core, answer };
+    }
+    let from = core.committed;
+    let to = core.ordered;
+    let words = context.words;
+    let committed = settlement::settle_order(order, from, to, &words, slot);
+    // What is executed agrees with the order up to where the settlement changes it.
+    let same = replica::lower(core.executed, from);
+    let executed = common::common_start(stack, core.executed, order, to, same);
+    // The request is the last committed: it stays executed where the mark lies behind it, and its response was kept at its place.
+    let response = responses[committed - 1];
+    let awaited = members::member(awaiting, n);
+    let due = awaited & (committed <= executed);
+    members::join(known, n);
+    end_waiting(due, awaiting, n);
+    let mut after = core;
+    after.committed = committed;
+    after.executed = executed;
+    after.commits = core.commits + 1;
+    let answer = settled_answer(due, response);
+    CallResult {
+        core: after,
+        answer,
+    }
+}
+
+// The refusal of a settlement by its number alone, with those numbers held.
+fn number_refusal(panels: u8, held: &[u64; 8], n: Number) -> u8
+    ensures { λ r. ⌜ r ≡ numberRefusal panels (setOf (now (held .entry))) n ⌝ }
+{
+    if numbers::bad(panels, n) {
+        return refusal::BAD_NUMBER;
+    }
+    if !members::member(held, n) {
+        return refusal::NOT_HERE;
+    }
+    refusal::ACCEPTED
+}
+
+// The answer that refuses the settlement of the request of that strength and context held under the number n, with those numbers known, or
+// no refusal.
+fn held_answer(strong: bool, context: Context, known: Context, n: Number) -> Answer
+    ensures { λ a. ⌜ a ≡ heldAnswer strong context known n ⌝ }
+{
+    if !strong {
+        return replica::refused(refusal::WEAK);
+    }
+    // A held strong request is known exactly where it is committed.
+    if sets::member(known, n) {
+        return replica::refused(refusal::SETTLED_ALREADY);
+    }
+    if !sets::is_subset(context, known) {
+        let missing = sets::lowest_lacking(context, known);
+        return waiting(missing);
+    }
+    replica::refused(refusal::ACCEPTED)
+}
+
+// The answer of refusal 12, which names the missing number.
+fn waiting(missing: Number) -> Answer
+    ensures { λ a. ⌜ a ≡ refusedWith refusedBy.waits missing ⌝ }
+{
+    Answer {
+        refusal: refusal::WAITS,
+        request: replica::no_request(),
+        number: missing,
+        response: 0,
+        mark: NOBODY,
+    }
+}
+
+// The answer of an accepted settlement: where a stable reply is due, that with the response.
+fn settled_answer(due: bool, response: u32) -> Answer
+    ensures { λ a. ⌜ a ≡ settledAnswer due response ⌝ }
+{
+    let none = Number {
+        panel: PanelNo(0),
+        event: EventNo(0),
+    };
+    if due {
+        return replica::reply(none, response, STABLE);
+    }
+    replica::reply(none, 0, NOBODY)
+}
+
+// Takes n from those who await a reply, where its stable reply was due.
+fn end_waiting(due: bool, awaiting: &mut [u64; 8], n: Number)
+    ensures { λ _. ⌜ setOf (now (awaiting .exit)) ≡ awaitingSettled due (setOf (now (awaiting .entry))) n ⌝ }
+{
+    if due {
+        members::leave(awaiting, n);
+    }
+}

@@ -1,0 +1,48 @@
+-- `steps::take_off` meets its contract.
+use mathlib.Core.Path.{refl, _∙_}
+use borrow.Author.Needs.{needs}
+use Rattle.steps.proofs.take_off.Statement.{statement}
+use Rattle.steps.proofs.take_off.Tie as tie
+
+mul-slot : tie.Need-mul-slot
+mul-slot c = search needs
+
+element-copy-out-slot : tie.Need-element-copy-out-slot
+element-copy-out-slot c = search needs
+
+mul-word : tie.Need-mul-word
+mul-word c = search needs
+
+element-copy-out-word : tie.Need-element-copy-out-word
+element-copy-out-word c = search needs
+
+cast-operation-at : tie.Need-cast-operation-at
+cast-operation-at c = search needs
+
+operation-at-requires : tie.Need-operation-at-requires
+operation-at-requires c κs = search needs
+
+saved-in-requires : tie.Need-saved-in-requires
+saved-in-requires c κs = search needs
+
+rollback-requires : tie.Need-rollback-requires
+rollback-requires c κs = search needs
+
+returns : tie.Need-returns
+returns c =
+    let read = c .before .before .before in
+    record { slot = refl; rolled-back = c .rollback .ensures ∙ rw (read .operation-at .ensures, c .before .saved-in .ensures) }
+
+pub take-off-spec : {M : Type 1} → statement M
+take-off-spec =
+    tie.close
+    (tie.spec
+    mul-slot
+    element-copy-out-slot
+    mul-word
+    element-copy-out-word
+    cast-operation-at
+    operation-at-requires
+    saved-in-requires
+    rollback-requires
+    returns)

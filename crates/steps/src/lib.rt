@@ -1,0 +1,204 @@
+// The two steps: undo the first of the rollback list, execute the first of the to-do list.
+//
+// Taking a request off the board and putting one on are functions of their own, which all due steps at once (crate `due`) call too. The
+// steps are not counted here: a call says how many it did, and whoever has the counters counts them.
+use creek::Answer;
+use creek::mark::NOBODY;
+use creek::mark::STABLE;
+use creek::mark::TENTATIVE;
+use creek::mark::WEAK;
+use numbers::Number;
+use replica::Core;
+use request::refusal;
+use store::members;
+use store::requests;
+ghost use mathlib.Core.Path.{_≡_};
+ghost use Prim.Native.Nat.{_<_};
+ghost use Rattle.sets.specs.Sets.{setOf};
+ghost use Rattle.slots.specs.Slots.{mostSlots};
+ghost use Rattle.creek.specs.Replies.{awaitingAfter, markOf};
+ghost use Rattle.steps.specs.Steps.{UndoAsks, UndoKept, TopAsks, TakenOff, ExecuteAsks, ExecuteKept, PutOn};
+
+// What a step returns: the core after it, how many steps were done, which is 1 or, where it was refused, 0, and its answer.
+pub struct StepResult {
+    pub core: Core,
+    pub steps: u32,
+    pub answer: Answer,
+}
+
+// A reply that fell due: its request's number, the response and the mark.
+pub struct DueReply {
+    pub number: Number,
+    pub response: u32,
+    pub mark: u8,
+}
+
+// Undo one step: the first of the rollback list leaves the board, and its registers take their former values.
+pub fn undo<'a>(
+    core: Core,
+    operations: &'a [u64; 512],
+    stack: &'a [u16; 512],
+    registers: &mut [u32; 64],
+    saved: &'a [u64; 512],
+) -> StepResult
+    requires { ⌜ UndoAsks core (now operations) (now stack) (now registers) (now saved) ⌝ }
+    ensures { λ r. ⌜ UndoKept core (now (operations .entry)) (now (stack .entry)) (now (registers .entry)) (now (saved .entry))
+        (now (registers .exit)) r ⌝ }
+{
+    if core.executed == core.stacked {
+        let answer = replica::refused(refusal::NOTHING_TO_UNDO);
+        return StepResult {
+            core,
+            steps: 0,
+            answer,
+        };
+    }
+    let top = core.stacked - 1;
+    let slot = take_off(operations, stack, registers, saved, top);
+    let mut after = core;
+    after.stacked = top;
+    let answer = replica::reply(numbers::number_of(slot), 0, NOBODY);
+    StepResult {
+        core: after,
+        steps: 1,
+        answer,
+    }
+}
+
+// Rolls back the request at the place `top` on the board, from what was saved there; its slot.
+pub fn take_off<'a>(
+    operations: &'a [u64; 512],
+    stack: &'a [u16; 512],
+    registers: &mut [u32; 64],
+    saved: &'a [u64; 512],
+    top: usize,
+) -> u16
+    requires { ⌜ TopAsks (now stack) top ⌝ }
+    ensures { λ slot. ⌜ TakenOff (now (operations .entry)) (now (stack .entry)) (now (registers .entry)) (now (saved .entry)) top
+        (now (registers .exit)) slot ⌝ }
+{
+    let slot = stack[top];
+    let word = saved[top];
+    let operation = requests::operation_at(operations, slot as usize);
+    registers::rollback(registers, operation, registers::saved_in(word));
+    slot
+}
+
+// Carry out one step: the first of the to-do list is executed and joins the executed list.
+pub fn execute<'a>(
+    core: Core,
+    awaiting: &mut [u64; 8],
+    operations: &'a [u64; 512],
+    order: &'a [u16; 512],
+    stack: &mut [u16; 512],
+    registers: &mut [u32; 64],
+    saved: &mut [u64; 512],
+    responses: &mut [u32; 512],
+) -> StepResult
+    requires { ⌜ ExecuteAsks core (now awaiting) (now operations) (now order) (now stack) (now registers) (now saved) (now responses) ⌝ }
+    ensures { λ r. ⌜ ExecuteKept core (now (awaiting .entry)) (now (operations .entry)) (now (order .entry)) (now (stack .entry))
+        (now (registers .entry)) (now (saved .entry)) (now (responses .entry))
+        (now (awaiting .exit)) (now (stack .exit)) (now (registers .exit)) (now (saved .exit)) (now (responses .exit)) r ⌝ }
+{
+    let at = core.executed;
+    if at != core.stacked {
+        let answer = replica::refused(refusal::UNDO_FIRST);
+        return StepResult {
+            core,
+            steps: 0,
+            answer,
+        };
+    }
+    if at == core.ordered {
+        let answer = replica::refused(refusal::NOTHING_TO_DO);
+        return StepResult {
+            core,
+            steps: 0,
+            answer,
+        };
+    }
+    let slot = order[at];
+    let operation = requests::operation_at(operations, slot as usize);
+    let strong = requests::strong_at(operations, slot as usize);
+    let before = registers::save(registers, operation);
+    let word = registers::saved_word(before);
+    let response = registers::execute(registers, operation);
+    let next = put_on(
+        core.committed,
+        awaiting,
+        stack,
+        saved,
+        responses,
+        at,
+        slot,
+        strong,
+        word,
+        response,
+    );
+    let mut after = core;
+    after.executed = at + 1;
+    after.stacked = at + 1;
+    let answer = replica::reply(next.number, next.response, next.mark);
+    StepResult {
+        core: after,
+        steps: 1,
+        answer,
+    }
+}
+
+// Puts the request in that slot, of that strength, on the board at place `at`, with what was saved before it and its response; so many of
+// the order are committed. Its reply.
+pub fn put_on(
+    committed: usize,
+    awaiting: &mut [u64; 8],
+    stack: &mut [u16; 512],
+    saved: &mut [u64; 512],
+    responses: &mut [u32; 512],
+    at: usize,
+    slot: u16,
+    strong: bool,
+    word: u64,
+    response: u32,
+) -> DueReply
+    requires { ⌜ at < mostSlots ⌝ }
+    ensures { λ r. ⌜ PutOn committed (now (awaiting .entry)) (now (stack .entry)) (now (saved .entry)) (now (responses .entry)) at slot strong
+        word response (now (awaiting .exit)) (now (stack .exit)) (now (saved .exit)) (now (responses .exit)) r ⌝ }
+{
+    stack[at] = slot;
+    saved[at] = word;
+    responses[at] = response;
+    let number = numbers::number_of(slot);
+    let awaited = members::member(awaiting, number);
+    let mark = mark_of(awaited, strong, at < committed);
+    end_waiting(awaiting, number, mark);
+    DueReply {
+        number,
+        response,
+        mark,
+    }
+}
+
+// The mark of an execution's reply.
+fn mark_of(awaited: bool, strong: bool, committed: bool) -> u8
+    ensures { λ m. ⌜ m ≡ markOf awaited strong committed ⌝ }
+{
+    if awaited {
+        if strong {
+            if committed {
+                return STABLE;
+            }
+            return TENTATIVE;
+        }
+        return WEAK;
+    }
+    NOBODY
+}
+
+// Takes n from those who await a reply after one with that mark: weak and stable end the waiting.
+fn end_waiting(awaiting: &mut [u64; 8], n: Number, mark: u8)
+    ensures { λ _. ⌜ setOf (now (awaiting .exit)) ≡ awaitingAfter (setOf (now (awaiting .entry))) n mark ⌝ }
+{
+    if (mark == WEAK) | (mark == STABLE) {
+        members::leave(awaiting, n);
+    }
+}
