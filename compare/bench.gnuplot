@@ -5,7 +5,7 @@ set multiplot layout 1,2
 set logscale xy
 set xtics (64, 128, 256, 512)
 set xrange [55:600]
-set yrange [0.1:500]
+set yrange [0.05:5]
 set xlabel 'requests of the shift'
 set ylabel 'microseconds a request'
 set key top left

@@ -23,9 +23,6 @@ const MOST_OWN: usize = 64;
 /// Every so manieth request is strong where there are settlements.
 const STRONG_EVERY: usize = 8;
 
-/// The bytes of the proved panel's state.
-const STATE_BYTES: usize = 51_712;
-
 /// Samples of each side, and how long one should take at least.
 const SAMPLES: usize = 41;
 const SAMPLE_SECONDS: f64 = 0.004;
@@ -335,15 +332,6 @@ fn single_calls(out: &mut [u8]) -> Single {
     Single { refused, heard, carried, undone }
 }
 
-/// Seconds of a copy of the proved panel's state.
-fn copy_time() -> f64 {
-    let from = vec![1u8; STATE_BYTES];
-    let mut to = vec![0u8; STATE_BYTES];
-    let mut work = || black_box(&mut to[..]).copy_from_slice(black_box(&from));
-    let runs = runs_of(&mut work);
-    median((0..SAMPLES).map(|_| seconds(runs, &mut work)).collect())
-}
-
 fn message_time(part: &mut [u8; STRONG_LENGTH]) -> (Times, Times) {
     let context = NumberSet([0x0123_4567_89ab_cdef; PANELS]);
     let strong = Request { strong: true, context, ..Shift::of(64, true, false).request(2) };
@@ -420,33 +408,30 @@ fn ratios(all: &[Measured], out: &mut [u8]) {
     let refused = refused_message(out);
     let single = single_calls(out);
     let (read, write) = message_time(&mut [0; STRONG_LENGTH]);
-    let copy = copy_time();
     let step_of_moves = due_step("due steps of moves", Second::Move, out);
     let full_of_moves = full_shift("full shift of moves", Second::Move, out);
     let step_of_claims = due_step("due steps of claims", Second::ClaimOfFour, out);
     let full_of_claims = full_shift("full shift of claims", Second::ClaimOfFour, out);
     progress_ends();
     println!("| work | proved | handwritten | ratio | at most |\n|---|---|---|---|---|");
-    row("a due step inside `run_due`", step, "1.5");
-    row("a due step inside `run_due`, every second operation a move", step_of_moves, "1.5");
+    row("a due step inside `run_due`", step, "1.1");
+    row("a due step inside `run_due`, every second operation a move", step_of_moves, "1.1");
     row("a due step inside `run_due`, every second operation a claim of four", step_of_claims, "1.5");
     let full = find(all, MOST_HEARD + MOST_OWN, true, true);
-    row("a full shift: 512 requests, falling, 64 settlements", full.times, "10; 1.5 in place");
-    row("a full shift, every second operation a move", full_of_moves, "10; 1.5 in place");
-    row("a full shift, every second operation a claim of four", full_of_claims, "10; 1.5 in place");
-    row("a printout: 448 requests, falling, 56 settlements", printout, "");
+    row("a full shift: 512 requests, falling, 64 settlements", full.times, "1.5");
+    row("a full shift, every second operation a move", full_of_moves, "1.5");
+    row("a full shift, every second operation a claim of four", full_of_claims, "1.5");
+    row("a printout: 448 requests, falling, 56 settlements", printout, "1.5");
     row("a message refused, with its line of a printout", refused, "");
-    let two_copies = format!("{} (two copies)", time(2.0 * copy));
-    row("a single call: refused", single.refused, &two_copies);
-    row("a single call: hear", single.heard, &two_copies);
-    row("a single call: carry out", single.carried, &two_copies);
-    row("a single call: undo", single.undone, &two_copies);
+    row("a single call: refused", single.refused, "3");
+    row("a single call: hear", single.heard, "2");
+    row("a single call: carry out", single.carried, "3");
+    row("a single call: undo", single.undone, "3");
     let both =
         Times { proved: read.proved + write.proved, handwritten: read.handwritten + write.handwritten };
-    row("parse of a strong message", read, "");
-    row("write of a strong message", write, "");
-    row("both", both, "3");
-    println!("\nA copy of the state's {STATE_BYTES} bytes takes {}.", time(copy));
+    row("parse of a strong message", read, "2");
+    row("write of a strong message", write, "2");
+    row("both", both, "2");
 }
 
 fn growth(all: &[Measured]) {
