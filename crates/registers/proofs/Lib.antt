@@ -1,9 +1,5 @@
--- The laws of the definitions in `specs/`, for this crate's proofs and for the crates above it.
-pub mod AmountLaws
-pub mod SpanLaws
-pub mod FrameLaws
-pub mod RegisterLaws
+-- The laws of rolling back, for the crates above; and those of `effects` that these cite, passed on.
+pub mod RollbackLaws
 pub mod ReplayLaws
 pub mod SumLaws
-pub mod ClaimLaws
-pub mod ClaimReadings
+pub mod FrameLaws

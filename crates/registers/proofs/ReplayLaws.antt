@@ -1,42 +1,11 @@
--- Laws of replays: of no operation, of two runs one after the other, of one operation more, of the last one rolled back; and the number
--- of registers.
-use Prim.Native.Nat.{ℕ, suc}
-use mathlib.Core.Path.{_≡_, refl, _∙_}
+-- That the last operation of a replay is rolled back from what was saved before it; and the laws of replays of `effects`, passed on.
+use mathlib.Core.Path.{_≡_}
 use mathlib.Core.List.{List, [], _∷_, _++_}
-use lib.ListN.{length, length-replicate}
 use Rattle.request.specs.declared.Operation.{Operation}
-use Rattle.request.specs.Operations.{lastRegister}
-use Rattle.registers.specs.Effect.{exec}
+use Rattle.effects.specs.Replay.{replay}
 use Rattle.registers.specs.Rollback.{savedOf, restored}
-use Rattle.registers.specs.Replay.{zeroBoard, replayOn, replay}
-use Rattle.registers.proofs.RegisterLaws.{exec-length, rolled-back}
+use Rattle.registers.proofs.RollbackLaws.{rolled-back}
+pub use Rattle.effects.proofs.ReplayLaws.{replay-nothing, replay-append, replay-more, replay-length}
 
-replayOn-append : (b : List ℕ) (os ps : List Operation) → replayOn b (os ++ ps) ≡ replayOn (replayOn b os) ps
-unfolding replayOn
-replayOn-append b [] ps = refl
-replayOn-append b (o ∷ os) ps = replayOn-append (exec o b) os ps
-
-replayOn-length : (b : List ℕ) (os : List Operation) → length (replayOn b os) ≡ length b
-unfolding replayOn
-replayOn-length b [] = refl
-replayOn-length b (o ∷ os) = replayOn-length (exec o b) os ∙ exec-length o b
-
-pub replay-nothing : replay [] ≡ zeroBoard
-unfolding replay replayOn
-replay-nothing = refl
-
-pub replay-append : (os ps : List Operation) → replay (os ++ ps) ≡ replayOn (replay os) ps
-unfolding replay
-replay-append os ps = replayOn-append zeroBoard os ps
-
-pub replay-more : (os : List Operation) (o : Operation) → replay (os ++ o ∷ []) ≡ exec o (replay os)
-unfolding replayOn
-replay-more os o = replay-append os (o ∷ [])
-
--- the last operation rolled back, from what was saved before it
 pub replay-rolled-back : (os : List Operation) (o : Operation) → restored o (savedOf o (replay os)) (replay (os ++ o ∷ [])) ≡ replay os
 replay-rolled-back os o = rw replay-more (rolled-back o (replay os))
-
-pub replay-length : (os : List Operation) → length (replay os) ≡ suc lastRegister
-unfolding replay
-replay-length os = replayOn-length zeroBoard os ∙ length-replicate {A = ℕ} (suc lastRegister) 0

@@ -1,7 +1,6 @@
--- The definitions that contracts cite, here and in the crates above; then what is claimed of moves and of claims of registers together.
-pub mod Effect
+-- What is saved and rolled back; and the definitions of `effects`, passed on, so that the crates above name one crate.
 pub mod Rollback
+pub mod Effect
 pub mod Replay
 pub mod Moves
 pub mod Claims
-pub mod ClaimReadings

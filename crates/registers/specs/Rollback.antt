@@ -8,7 +8,7 @@ use lib.Dec.{eqb}
 use Rattle.request.specs.declared.Operation.{Operation}
 use Rattle.request.specs.Operations.{codeClaimAll}
 use Rattle.registers.specs.declared.Saved.{Saved}
-use Rattle.registers.specs.Effect.{range, offBoard, allSet}
+use Rattle.effects.specs.Effect.{range, offBoard, allSet}
 
 -- what is saved before o on the registers b: the values of r and q, and zeros for an operation off the board
 unfoldable pub savedOf : Operation → List ℕ → Saved

@@ -1,15 +1,14 @@
 // The 64 registers: what to save before an operation, executing it, and rolling it back from what was saved.
 //
-// `exec`, `response` and `replay` of `specs/` say what operations do; callers use them and the laws in `proofs/`.
+// `exec`, `response` and `replay` say what operations do; callers use them and the laws in `proofs/`. The definitions and their laws are
+// those of `effects`, executing is `executing`'s, and both are passed on here.
 // Every function takes any operation: one that names a register over 63 saves zeros, changes nothing and responds 0.
+pub use executing::execute;
 use request::Operation;
 use request::operations;
-ghost use Prim.Native.Nat.{_+_, _-_, min};
 ghost use mathlib.Core.Path.{_≡_};
-ghost use mathlib.Core.Bool.{false};
-ghost use Rattle.registers.specs.Effect.{range, offBoard, lowestHeld, allSet, MoveOnBoard, ClaimOnBoard, Executed};
 ghost use Rattle.registers.specs.Rollback.{savedOf, restored, savedIn, SavedAs};
-ghost use Rattle.registers.specs.Replay.{zeroBoard};
+ghost use Rattle.effects.specs.Replay.{zeroBoard};
 
 // The values of registers r and q from before an operation. Only this crate looks inside.
 pub struct Saved {
@@ -28,7 +27,7 @@ pub fn zero_board() -> [u32; 64]
 pub fn save(registers: &[u32; 64], o: Operation) -> Saved
     ensures { λ s. ⌜ s ≡ savedOf o (now (registers .entry)) ⌝ }
 {
-    if off_board(o) {
+    if executing::off_board(o) {
         return Saved { r: 0, q: 0 };
     }
     let r = registers[o.r as usize];
@@ -36,126 +35,11 @@ pub fn save(registers: &[u32; 64], o: Operation) -> Saved
     Saved { r: r, q: q }
 }
 
-// Executes o on the registers, and returns its response.
-pub fn execute(registers: &mut [u32; 64], o: Operation) -> u32
-    ensures { λ x. ⌜ Executed o (now (registers .entry)) (now (registers .exit)) x ⌝ }
-{
-    if off_board(o) {
-        return 0;
-    }
-    let code = o.code;
-    let amount = o.amount;
-    let r = o.r as usize;
-    let before = registers[r];
-    if code == operations::READ {
-        return before;
-    }
-    if code == operations::SET {
-        registers[r] = amount;
-        return before;
-    }
-    if code == operations::ADD {
-        let sum = std::num::wrapping_add_u32(before, amount);
-        registers[r] = sum;
-        return sum;
-    }
-    if code == operations::CLAIM {
-        if before != 0 {
-            return before;
-        }
-        registers[r] = amount;
-        return amount;
-    }
-    if code == operations::MOVE {
-        return execute_move(registers, o);
-    }
-    if code == operations::CLAIM_ALL {
-        return execute_claim_all(registers, o);
-    }
-    0
-}
-
-// Executes a move: of the amount asked for, what there is and fits goes from r to q.
-fn execute_move(registers: &mut [u32; 64], o: Operation) -> u32
-    requires { ⌜ MoveOnBoard o ⌝ }
-    ensures { λ x. ⌜ Executed o (now (registers .entry)) (now (registers .exit)) x ⌝ }
-{
-    let asked = o.amount;
-    let r = o.r as usize;
-    let q = o.q as usize;
-    let source = registers[r];
-    let target = registers[q];
-    let room = room_left(target);
-    let most = lesser(source, room);
-    let amount = lesser(asked, most);
-    registers[r] = source - amount;
-    registers[q] = target + amount;
-    amount
-}
-
-// The room left in a register that holds so much: with it the register is at its greatest value.
-fn room_left(held: u32) -> u32
-    ensures { λ x. ⌜ held + x ≡ range - 1 ⌝ }
-{
-    u32::MAX - held
-}
-
-// The lesser of two numbers.
-fn lesser(a: u32, b: u32) -> u32
-    ensures { λ x. ⌜ x ≡ min a b ⌝ }
-{
-    if a < b {
-        return a;
-    }
-    b
-}
-
-// Executes a claim of registers r to q: all become the amount, or none changes.
-fn execute_claim_all(registers: &mut [u32; 64], o: Operation) -> u32
-    requires { ⌜ ClaimOnBoard o ⌝ }
-    ensures { λ x. ⌜ Executed o (now (registers .entry)) (now (registers .exit)) x ⌝ }
-{
-    let held = lowest_held(registers, o);
-    if held != 0 {
-        return held;
-    }
-    set_all(registers, o, o.amount);
-    o.amount
-}
-
-// The value of the lowest-numbered register from r to q that is not 0, or 0 where all of them are.
-fn lowest_held(registers: &[u32; 64], o: Operation) -> u32
-    requires { ⌜ offBoard o ≡ false ⌝ }
-    ensures { λ x. ⌜ x ≡ lowestHeld o (now (registers .entry)) ⌝ }
-{
-    let end = o.q as usize + 1;
-    let mut k = o.r as usize;
-    let mut held = 0;
-    while (held == 0) & (k < end) {
-        held = registers[k];
-        k += 1;
-    }
-    held
-}
-
-// Sets all of registers r to q to v.
-fn set_all(registers: &mut [u32; 64], o: Operation, v: u32)
-    requires { ⌜ offBoard o ≡ false ⌝ }
-    ensures { λ _. ⌜ now (registers .exit) ≡ allSet o v (now (registers .entry)) ⌝ }
-{
-    let end = o.q as usize + 1;
-    let mut at = o.r as usize;
-    while at < end {
-        registers[at] = v;
-        at += 1;
-    }
-}
-
 // Puts back what was saved before o.
 pub fn rollback(registers: &mut [u32; 64], o: Operation, s: Saved)
     ensures { λ _. ⌜ now (registers .exit) ≡ restored o s (now (registers .entry)) ⌝ }
 {
-    if off_board(o) {
+    if executing::off_board(o) {
         return;
     }
     if o.code == operations::CLAIM_ALL {
@@ -163,7 +47,7 @@ pub fn rollback(registers: &mut [u32; 64], o: Operation, s: Saved)
         if (s.r != 0) | (held == 0) {
             return;
         }
-        set_all(registers, o, s.q);
+        executing::set_all(registers, o, s.q);
         return;
     }
     registers[o.r as usize] = s.r;
@@ -189,11 +73,4 @@ pub fn saved_in(word: u64) -> Saved
     let r = (word % RANGE) as u32;
     let q = (word / RANGE) as u32;
     Saved { r: r, q: q }
-}
-
-// Whether o names a register over 63.
-fn off_board(o: Operation) -> bool
-    ensures { λ x. ⌜ x ≡ offBoard o ⌝ }
-{
-    (operations::LAST_REGISTER < o.r) | (operations::LAST_REGISTER < o.q)
 }

@@ -4,9 +4,9 @@ use mathlib.Core.Path.{_≡_, sym, _∙_}
 use mathlib.Core.Bool.{false}
 use borrow.Author.Needs.{needs}
 use borrow.Author.Tests.{ne-eqb}
-use Rattle.registers.specs.Effect.{offBoard}
+use Rattle.effects.specs.Effect.{offBoard}
 use Rattle.registers.specs.Rollback.{notTaken, restored}
-use Rattle.registers.proofs.RegisterLaws.{on-board}
+use Rattle.effects.proofs.RegisterLaws.{on-board}
 use Rattle.registers.proofs.rollback.Statement.{statement}
 use Rattle.registers.proofs.rollback.Tie as tie
 

@@ -3,9 +3,9 @@ use native.Mathlib.Omega.{arith}
 use mathlib.Core.Path.{_≡_, sym, _∙_}
 use mathlib.Core.Bool.{false}
 use borrow.Author.Needs.{needs}
-use Rattle.registers.specs.Effect.{offBoard}
+use Rattle.effects.specs.Effect.{offBoard}
 use Rattle.registers.specs.Rollback.{savedOf}
-use Rattle.registers.proofs.RegisterLaws.{on-board}
+use Rattle.effects.proofs.RegisterLaws.{on-board}
 use Rattle.registers.proofs.save.Statement.{statement}
 use Rattle.registers.proofs.save.Tie as tie
 

@@ -3,7 +3,7 @@ use Prim.Native.Nat.{_/_, _%_}
 use native.Mathlib.Omega.{arith}
 use mathlib.Core.Path.{_≡_, refl}
 use borrow.Author.Needs.{needs}
-use Rattle.registers.specs.Effect.{range}
+use Rattle.effects.specs.Effect.{range}
 use Rattle.registers.specs.Rollback.{savedWord, savedIn}
 use Rattle.registers.proofs.saved_word.Statement.{statement}
 use Rattle.registers.proofs.saved_word.Tie as tie

@@ -8,8 +8,8 @@ use mathlib.Core.Logic.{_⊎_, inl, inr}
 use lib.Dec.{leb}
 use borrow.Author.Tests.{leb-true, leb-false}
 use Rattle.request.specs.declared.Operation.{Operation}
-use Rattle.registers.specs.Effect.{amountMoved}
-use Rattle.registers.specs.Moves.{LeastOfThree}
+use Rattle.effects.specs.Effect.{amountMoved}
+use Rattle.effects.specs.Moves.{LeastOfThree}
 
 one-of-two : (x y : ℕ) → (min x y ≡ x) ⊎ (min x y ≡ y)
 one-of-two x y = go (leb x y) refl

@@ -12,12 +12,12 @@ use borrow.Author.Tests.{eqb-true, eqb-false, eq-eqb, not-true, le-ltb}
 use Rattle.lists.proofs.BoolLaws.{both-true, neither-true}
 use Rattle.request.specs.declared.Operation.{Operation}
 use Rattle.request.specs.Operations.{codeClaimAll, lastRegister, mostClaimed, span, badOperation}
-use Rattle.registers.specs.Effect.{offBoard, lowestHeld, allSet, exec, response, Executed, ClaimOnBoard}
-use Rattle.registers.specs.Claims.{claimAll, plainClaim, Among, SameAsPlainClaim, TakesAllOrNone, goodClaim, NeverOneEach}
-use Rattle.registers.proofs.SpanLaws.{held-one, all-zero, none-held, lowest-held, set-inside}
-use Rattle.registers.proofs.FrameLaws.{named-outside}
-use Rattle.registers.proofs.RegisterLaws.{on-board, executed-off, executed-claim, executed-no-claim, executed-claim-all}
-use Rattle.registers.proofs.RegisterLaws.{executed-no-claim-all, exec-length, exec-frame}
+use Rattle.effects.specs.Effect.{offBoard, lowestHeld, allSet, exec, response, Executed, ClaimOnBoard}
+use Rattle.effects.specs.Claims.{claimAll, plainClaim, Among, SameAsPlainClaim, TakesAllOrNone, goodClaim, NeverOneEach}
+use Rattle.effects.proofs.SpanLaws.{held-one, all-zero, none-held, lowest-held, set-inside}
+use Rattle.effects.proofs.FrameLaws.{named-outside}
+use Rattle.effects.proofs.RegisterLaws.{on-board, executed-off, executed-claim, executed-no-claim, executed-claim-all}
+use Rattle.effects.proofs.RegisterLaws.{executed-no-claim-all, exec-length, exec-frame}
 
 -- ---- what makes a claim bad
 

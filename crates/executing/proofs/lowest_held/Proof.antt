@@ -6,11 +6,11 @@ use borrow.Author.Needs.{needs}
 use borrow.Author.Tests.{eqb-true, ltb-true}
 use Rattle.lists.proofs.BoolLaws.{both-true}
 use Rattle.request.specs.Operations.{lastRegister}
-use Rattle.registers.specs.Effect.{unlessZero, firstHeld, lowestHeld}
-use Rattle.registers.proofs.RegisterLaws.{on-board}
-use Rattle.registers.proofs.SpanLaws.{held-on, held-end}
-use Rattle.registers.proofs.lowest_held.Statement.{statement}
-use Rattle.registers.proofs.lowest_held.Tie as tie
+use Rattle.effects.specs.Effect.{unlessZero, firstHeld, lowestHeld}
+use Rattle.effects.proofs.RegisterLaws.{on-board}
+use Rattle.effects.proofs.SpanLaws.{held-on, held-end}
+use Rattle.executing.proofs.lowest_held.Statement.{statement}
+use Rattle.executing.proofs.lowest_held.Tie as tie
 
 abbrev Inv-loop : tie.InvT-loop
 Inv-loop registers end k₀ held₀ k held =

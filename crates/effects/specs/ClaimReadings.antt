@@ -6,9 +6,9 @@ use mathlib.Core.List.{List, _∷_, _++_}
 use Prim.Native.Nat.{ℕ}
 use lib.ListN.{replicate}
 use Rattle.request.specs.Operations.{badOperation}
-use Rattle.registers.specs.Effect.{Executed}
-use Rattle.registers.specs.Replay.{zeroBoard}
-use Rattle.registers.specs.Claims.{claimAll}
+use Rattle.effects.specs.Effect.{Executed}
+use Rattle.effects.specs.Replay.{zeroBoard}
+use Rattle.effects.specs.Claims.{claimAll}
 
 -- registers 2 and 3 hold 9 and 3, and every other one 0
 abbrev pub nineThenThree : List ℕ

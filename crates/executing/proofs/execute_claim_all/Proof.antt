@@ -1,9 +1,9 @@
 -- `execute_claim_all` meets its contract: each of its two returns is an outcome of such a claim.
 use mathlib.Core.Path.{sym, _∙_}
 use borrow.Author.Needs.{needs}
-use Rattle.registers.proofs.RegisterLaws.{executed-claim-all, executed-no-claim-all}
-use Rattle.registers.proofs.execute_claim_all.Statement.{statement}
-use Rattle.registers.proofs.execute_claim_all.Tie as tie
+use Rattle.effects.proofs.RegisterLaws.{executed-claim-all, executed-no-claim-all}
+use Rattle.executing.proofs.execute_claim_all.Statement.{statement}
+use Rattle.executing.proofs.execute_claim_all.Tie as tie
 
 lowest-held-requires : tie.Need-lowest-held-requires
 lowest-held-requires c κs = search needs

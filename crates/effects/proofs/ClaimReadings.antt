@@ -1,8 +1,8 @@
 -- Each reading of `specs/ClaimReadings` is what the definitions compute.
 use mathlib.Core.Path.{refl}
 use Rattle.request.specs.Operations.{badOperation}
-use Rattle.registers.specs.Effect.{offBoard, firstHeld, lowestHeld, allSet, allClaimed, allClaimedResponse, exec, response}
-use Rattle.registers.specs.ClaimReadings.{ClaimReadings}
+use Rattle.effects.specs.Effect.{offBoard, firstHeld, lowestHeld, allSet, allClaimed, allClaimedResponse, exec, response}
+use Rattle.effects.specs.ClaimReadings.{ClaimReadings}
 
 pub claim-readings-told : ClaimReadings
 unfolding badOperation offBoard firstHeld lowestHeld allSet allClaimed allClaimedResponse exec response

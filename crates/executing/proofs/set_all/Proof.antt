@@ -6,11 +6,11 @@ use lib.ListN.{replicate}
 use lib.Seq.{sets}
 use borrow.Author.Needs.{needs}
 use Rattle.request.specs.Operations.{lastRegister}
-use Rattle.registers.specs.Effect.{allSet}
-use Rattle.registers.proofs.RegisterLaws.{on-board}
-use Rattle.registers.proofs.SpanLaws.{set-on, set-end}
-use Rattle.registers.proofs.set_all.Statement.{statement}
-use Rattle.registers.proofs.set_all.Tie as tie
+use Rattle.effects.specs.Effect.{allSet}
+use Rattle.effects.proofs.RegisterLaws.{on-board}
+use Rattle.effects.proofs.SpanLaws.{set-on, set-end}
+use Rattle.executing.proofs.set_all.Statement.{statement}
+use Rattle.executing.proofs.set_all.Tie as tie
 
 abbrev Inv-loop : tie.InvT-loop
 Inv-loop registers₀ v end at₀ registers at =

@@ -4,11 +4,11 @@ use native.Mathlib.Omega.{arith}
 use mathlib.Core.Path.{_≡_, sym, _∙_}
 use mathlib.Core.Bool.{false}
 use borrow.Author.Needs.{needs}
-use Rattle.registers.specs.Effect.{offBoard, added}
-use Rattle.registers.proofs.RegisterLaws.{on-board, executed-off, executed-read, executed-set, executed-add}
-use Rattle.registers.proofs.RegisterLaws.{executed-claim, executed-no-claim, executed-unknown}
-use Rattle.registers.proofs.execute.Statement.{statement}
-use Rattle.registers.proofs.execute.Tie as tie
+use Rattle.effects.specs.Effect.{offBoard, added}
+use Rattle.effects.proofs.RegisterLaws.{on-board, executed-off, executed-read, executed-set, executed-add}
+use Rattle.effects.proofs.RegisterLaws.{executed-claim, executed-no-claim, executed-unknown}
+use Rattle.executing.proofs.execute.Statement.{statement}
+use Rattle.executing.proofs.execute.Tie as tie
 
 on : (c : tie.Else1) → offBoard (c .before .before .args .o) ≡ false
 on c = sym (c .before .off-board .ensures) ∙ c .if1 .left

@@ -1,8 +1,8 @@
 -- `off_board` meets its contract: its code is the definition.
 use mathlib.Core.Path.{refl}
-use Rattle.registers.specs.Effect.{offBoard}
-use Rattle.registers.proofs.off_board.Statement.{statement}
-use Rattle.registers.proofs.off_board.Tie as tie
+use Rattle.effects.specs.Effect.{offBoard}
+use Rattle.executing.proofs.off_board.Statement.{statement}
+use Rattle.executing.proofs.off_board.Tie as tie
 
 returns : tie.Need-returns
 unfolding offBoard

@@ -11,7 +11,7 @@ use lib.ListN.{length, getD, set, replicate}
 use lib.Seq.{getD-set-same, getD-set-other, ext-getD, lt-length-set, sets, length-sets}
 use lib.Dec.{ltb, leb, eqb}
 use borrow.Author.Tests.{ltb-true, ltb-false, leb-true, leb-false, eqb-true, eqb-false, ne-eqb}
-use Rattle.registers.specs.Effect.{unlessZero, firstHeld}
+use Rattle.effects.specs.Effect.{unlessZero, firstHeld}
 
 -- a register from k on is k itself or one above it
 first-or-above : {P : Type 0} (k j : ℕ) → k ≤ j → (k ≡ j → P) → (k < j → P) → P

@@ -2,10 +2,10 @@
 use native.Mathlib.Omega.{arith}
 use mathlib.Core.Path.{_≡_}
 use borrow.Author.Needs.{needs}
-use Rattle.registers.specs.Effect.{amountMoved, moved}
-use Rattle.registers.proofs.RegisterLaws.{on-board, executed-move}
-use Rattle.registers.proofs.execute_move.Statement.{statement}
-use Rattle.registers.proofs.execute_move.Tie as tie
+use Rattle.effects.specs.Effect.{amountMoved, moved}
+use Rattle.effects.proofs.RegisterLaws.{on-board, executed-move}
+use Rattle.executing.proofs.execute_move.Statement.{statement}
+use Rattle.executing.proofs.execute_move.Tie as tie
 
 -- the function's entry, from behind both calls of `lesser`
 abbrev entry : tie.After-lesser2 → tie.Start

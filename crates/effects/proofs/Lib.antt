@@ -1,0 +1,9 @@
+-- The laws of the definitions in `specs/`, for the crates above.
+pub mod AmountLaws
+pub mod SpanLaws
+pub mod FrameLaws
+pub mod RegisterLaws
+pub mod ReplayLaws
+pub mod SumLaws
+pub mod ClaimLaws
+pub mod ClaimReadings
