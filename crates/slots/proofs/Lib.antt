@@ -1,5 +1,4 @@
--- The laws of lists of slots, for this crate's proofs and for the replica.
+-- The laws of a settlement, for this crate's proofs and for the replica; and those of `ordering`, passed on.
 pub mod SlotLaws
-pub mod InsertionLaws
 pub mod SeparationLaws
 pub mod SettlementLaws

@@ -12,7 +12,7 @@ use Rattle.lists.specs.Lists.{one, keep}
 use Rattle.lists.proofs.ListLaws.{one-most}
 use Rattle.lists.proofs.PlaceLaws.{drop-further, getD-further}
 use Rattle.lists.proofs.StepLaws.{keep-taken, keep-passed, keep-end}
-use Rattle.slots.specs.Slots.{mostSlots, inWords}
+use Rattle.ordering.specs.Slots.{mostSlots, inWords}
 use Rattle.slots.specs.Settlement.{stays, Separated}
 
 -- ---- one side

@@ -17,7 +17,7 @@ use Rattle.lists.proofs.AllLaws.{all-of, all-append, all-keep}
 use Rattle.lists.proofs.ListLaws.{count-append, count-all, count-split}
 use Rattle.lists.proofs.MapLaws.{keep-agree}
 use Rattle.lists.proofs.PlaceLaws.{keep-equal}
-use Rattle.slots.specs.Slots.{inWords}
+use Rattle.ordering.specs.Slots.{inWords}
 use Rattle.slots.specs.Settlement.{stays, Separated, PutAsks, settled, SettlementAsks, Settled}
 
 -- ---- the parts are the whole

@@ -7,7 +7,7 @@ use lib.ListN.{length, take, drop}
 use lib.Seq.{slice}
 use lib.Dec.{eqb}
 use Rattle.lists.specs.Lists.{count, keep}
-use Rattle.slots.specs.Slots.{mostSlots, Part, inWords}
+use Rattle.ordering.specs.Slots.{mostSlots, Part, inWords}
 
 -- slot t stays tentative when the request of slot s is settled: it is neither named in its context nor s itself
 unfoldable pub stays : List ℕ → ℕ → ℕ → Bool

@@ -1,13 +1,10 @@
 // Lists of slots kept in arrays of 512, each list by the array and a count: the loops of the replica.
 //
-// A slot stands for the request of one number (crate `request`, `numbers`); what is kept of a request by slot is the caller's, who
-// lends the arrays. The crate is internal to the replica: a function may require that its places lie in the arrays and that what
-// stands there are slots, as one record of `specs/` with named fields.
-//
-// `order` has clock order by slots, `insertion` the place of a request and insertion there, `common` the common start of two lists,
-// `settlement` the order after a settlement, `later` the known set without later requests. The laws for a caller are in `proofs/`.
-pub mod common;
-pub mod insertion;
-pub mod later;
-pub mod order;
+// `settlement` has the order after a settlement. `common`, `insertion`, `later` and `order` are those of `ordering`, which says what a
+// function may require, and are passed on here. The laws for a caller are in `proofs/`.
+pub use ordering::common;
+pub use ordering::insertion;
+pub use ordering::later;
+pub use ordering::order;
+
 pub mod settlement;

@@ -3,7 +3,7 @@
 ghost use mathlib.Core.Path.{_≡_};
 ghost use Prim.Native.Nat.{_<_};
 ghost use lib.Seq.{paste};
-ghost use Rattle.slots.specs.Slots.{mostSlots, inWords};
+ghost use Rattle.ordering.specs.Slots.{mostSlots, inWords};
 ghost use Rattle.slots.specs.Settlement.{SeparationAsks, Separated, PutAsks, SettlementAsks, Settled};
 
 const EVENTS: u16 = numbers::MOST_EVENTS as u16;

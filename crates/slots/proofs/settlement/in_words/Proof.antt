@@ -2,7 +2,7 @@
 use borrow.Author.Needs.{needs}
 use mathlib.Core.Path.{refl}
 use Rattle.sets.specs.Sets.{bit}
-use Rattle.slots.specs.Slots.{inWords}
+use Rattle.ordering.specs.Slots.{inWords}
 use Rattle.slots.proofs.settlement.in_words.Statement.{statement}
 use Rattle.slots.proofs.settlement.in_words.Tie as tie
 

@@ -8,7 +8,7 @@ use lib.ListN.{getD}
 use lib.Dec.{eqb}
 use Rattle.lists.proofs.ListLaws.{one-most}
 use Rattle.slots.specs.Settlement.{stays}
-use Rattle.slots.proofs.SlotLaws.{part-slot}
+use Rattle.ordering.proofs.SlotLaws.{part-slot}
 use Rattle.slots.proofs.SeparationLaws.{Separating, separating-here, separating-on, separating-end}
 use Rattle.slots.proofs.settlement.separate.Statement.{statement}
 use Rattle.slots.proofs.settlement.separate.Tie as tie

@@ -11,8 +11,8 @@ use lib.Seq.{slice}
 use Rattle.lists.specs.Lists.{commonStart}
 use Rattle.lists.proofs.BoolLaws.{both-true}
 use Rattle.lists.proofs.StepLaws.{common-on, common-stops, common-end-first, common-end-second}
-use Rattle.slots.proofs.common.common_start.Statement.{statement}
-use Rattle.slots.proofs.common.common_start.Tie as tie
+use Rattle.ordering.proofs.common.common_start.Statement.{statement}
+use Rattle.ordering.proofs.common.common_start.Tie as tie
 
 -- where one of the lists has no element at place p, nothing is common from there on
 module _ (xs ys : List ℕ) (n m p : ℕ) (first : p ≤ n) (second : p ≤ m) where

@@ -1,9 +1,9 @@
 -- `order::comes_before` meets its contract.
 use borrow.Author.Needs.{needs}
 use mathlib.Core.Path.{refl}
-use Rattle.slots.specs.Slots.{comesBefore}
-use Rattle.slots.proofs.order.comes_before.Statement.{statement}
-use Rattle.slots.proofs.order.comes_before.Tie as tie
+use Rattle.ordering.specs.Slots.{comesBefore}
+use Rattle.ordering.proofs.order.comes_before.Statement.{statement}
+use Rattle.ordering.proofs.order.comes_before.Tie as tie
 
 mul-other : tie.Need-mul-other
 mul-other c = search needs

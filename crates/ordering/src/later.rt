@@ -4,7 +4,7 @@ use sets::Context;
 ghost use mathlib.Core.Path.{_≡_};
 ghost use lib.Seq.{slice};
 ghost use Rattle.lists.specs.Lists.{keep};
-ghost use Rattle.slots.specs.Slots.{OrderAsks, comesBefore, without};
+ghost use Rattle.ordering.specs.Slots.{OrderAsks, comesBefore, without};
 
 // The known set without the numbers of those slots at places from..to of the order that the request of that clock reading and slot
 // comes before.

@@ -8,7 +8,7 @@ use lib.ListN.{length, take, drop, getD, set}
 use lib.Seq.{slice, take-take, take-set-lt, take-suc-set, getD-take, length-take-le}
 use Rattle.lists.specs.Places.{insertAt}
 use Rattle.lists.proofs.PlaceLaws.{insertAt-carry, insertAt-end, take-insertAt, drop-insertAt}
-use Rattle.slots.specs.Insertion.{Inserted}
+use Rattle.ordering.specs.Insertion.{Inserted}
 
 -- ---- the loop of `insert_at`
 

@@ -9,10 +9,10 @@ use lib.ListN.{length}
 use lib.Seq.{slice}
 use Rattle.lists.specs.Lists.{keep}
 use Rattle.sets.specs.Sets.{leave}
-use Rattle.slots.specs.Slots.{comesBefore, without}
-use Rattle.slots.proofs.SlotLaws.{comparison-asked, without-taken, without-passed, without-end}
-use Rattle.slots.proofs.later.without_later.Statement.{statement}
-use Rattle.slots.proofs.later.without_later.Tie as tie
+use Rattle.ordering.specs.Slots.{comesBefore, without}
+use Rattle.ordering.proofs.SlotLaws.{comparison-asked, without-taken, without-passed, without-end}
+use Rattle.ordering.proofs.later.without_later.Statement.{statement}
+use Rattle.ordering.proofs.later.without_later.Tie as tie
 
 abbrev Inv-loop : tie.InvT-loop
 Inv-loop clocks order from to clock slot left₀ at₀ left at =

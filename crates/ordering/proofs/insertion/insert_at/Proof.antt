@@ -6,10 +6,10 @@ use mathlib.Core.Path.{_≡_, refl, sym, ap, _∙_}
 use lib.ListN.{length, take, drop, length-set}
 use lib.Seq.{drop-set-lt}
 use Rattle.lists.specs.Places.{insertAt}
-use Rattle.slots.specs.Slots.{mostSlots}
-use Rattle.slots.proofs.InsertionLaws.{carried-on, carried-end}
-use Rattle.slots.proofs.insertion.insert_at.Statement.{statement}
-use Rattle.slots.proofs.insertion.insert_at.Tie as tie
+use Rattle.ordering.specs.Slots.{mostSlots}
+use Rattle.ordering.proofs.InsertionLaws.{carried-on, carried-end}
+use Rattle.ordering.proofs.insertion.insert_at.Statement.{statement}
+use Rattle.ordering.proofs.insertion.insert_at.Tie as tie
 
 abbrev Inv-loop : tie.InvT-loop
 Inv-loop xs₀ n at s carried₀ i₀ xs carried i =

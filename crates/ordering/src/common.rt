@@ -4,7 +4,7 @@ ghost use Prim.Native.Nat.{_+_};
 ghost use lib.Dec.{eqb};
 ghost use lib.Seq.{slice};
 ghost use Rattle.lists.specs.Lists.{commonStart};
-ghost use Rattle.slots.specs.Slots.{PartsAsk};
+ghost use Rattle.ordering.specs.Slots.{PartsAsk};
 
 // The place at which the common start from `at` on of the first n of xs and the first m of ys ends: goes up from `at` as long as both
 // lists have an element there and the two are the same.

@@ -5,8 +5,8 @@ ghost use mathlib.Core.Bool.{not};
 ghost use Prim.Native.Nat.{_+_};
 ghost use lib.Seq.{slice};
 ghost use Rattle.lists.specs.Places.{leading};
-ghost use Rattle.slots.specs.Slots.{comesBefore};
-ghost use Rattle.slots.specs.Insertion.{PlaceAsks, InsertionAsks, Inserted};
+ghost use Rattle.ordering.specs.Slots.{comesBefore};
+ghost use Rattle.ordering.specs.Insertion.{PlaceAsks, InsertionAsks, Inserted};
 
 // The place of the request of that clock reading and slot among the places from..to of the order: behind those at the front that it
 // does not come before. Searches by halves: below `low` it comes before none, from `high` on before all.

@@ -4,10 +4,10 @@ use native.Mathlib.Omega.{arith}
 use borrow.Author.Needs.{needs}
 use mathlib.Core.Path.{sym, _∙_}
 use Rattle.lists.proofs.HalvesLaws.{Halving, halving-starts, halving-passed, halving-failed, halving-ends}
-use Rattle.slots.specs.Slots.{comesBefore}
-use Rattle.slots.proofs.SlotLaws.{comparison-asked}
-use Rattle.slots.proofs.insertion.place.Statement.{statement}
-use Rattle.slots.proofs.insertion.place.Tie as tie
+use Rattle.ordering.specs.Slots.{comesBefore}
+use Rattle.ordering.proofs.SlotLaws.{comparison-asked}
+use Rattle.ordering.proofs.insertion.place.Statement.{statement}
+use Rattle.ordering.proofs.insertion.place.Tie as tie
 
 abbrev Inv-loop : tie.InvT-loop
 Inv-loop clocks order from to clock slot low₀ high₀ low high = Halving (comesBefore clocks clock slot) order 0 from to low high
