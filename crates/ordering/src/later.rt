@@ -26,7 +26,7 @@ pub fn without_later<'a>(
         let t = order[at];
         if order::comes_before(clocks, clock, slot, t) {
             let number = numbers::number_of(t);
-            left = sets::leave(left, number);
+            left = joining::leave(left, number);
         }
         at += 1;
     }

@@ -1,14 +1,13 @@
 // Sets of numbers as eight words, each function working by words. No set holds a number with a panel over 7 or an event outside 1 to 64:
-// asked for one, `member` says no, and `join` and `leave` return the set as it was.
+// asked for one, `member` says no. A number is put into a set and taken out of it in `joining`.
 //
 // Each contract gives the result by the definition of the same name in `specs/`; their laws are in `proofs/`.
 use numbers::EventNo;
 use numbers::Number;
 use numbers::PanelNo;
 ghost use mathlib.Core.Path.{_≡_};
-ghost use Rattle.numbers.specs.Numbers.{mostPanels, GoodNumber};
-ghost use Rattle.sets.specs.Sets.{sameContext, emptySet, isEmpty, namesFrom, member as memberOf, maskOf, join as joined};
-ghost use Rattle.sets.specs.Sets.{leave as left, difference as differenceOf, subset, lowest as lowestOf, lowestLacking};
+ghost use Rattle.sets.specs.Sets.{sameContext, emptySet, isEmpty, namesFrom, member as memberOf};
+ghost use Rattle.sets.specs.Sets.{difference as differenceOf, subset, lowest as lowestOf, lowestLacking};
 
 // A set of numbers: word p is panel p's, and bit e - 1 of it is event e's.
 pub struct Context {
@@ -71,45 +70,6 @@ pub fn member(s: Context, n: Number) -> bool
     let bit = (n.event.0 - 1) as u64;
     let word = s.words[panel];
     (word >> bit) % 2 == 1
-}
-
-// The word in which only n's bit is set.
-pub fn mask(n: Number) -> u64
-    requires { ⌜ GoodNumber mostPanels n ⌝ }
-    ensures { λ r. ⌜ r ≡ maskOf n ⌝ }
-{
-    let bit = (n.event.0 - 1) as u64;
-    1u64 << bit
-}
-
-// s with n.
-pub fn join(s: Context, n: Number) -> Context
-    ensures { λ r. ⌜ r ≡ joined s n ⌝ }
-{
-    if numbers::bad(numbers::MOST_PANELS, n) {
-        return s;
-    }
-    let mask = mask(n);
-    let panel = n.panel.0 as usize;
-    let mut t = s;
-    let word = t.words[panel];
-    t.words[panel] = word | mask;
-    t
-}
-
-// s without n.
-pub fn leave(s: Context, n: Number) -> Context
-    ensures { λ r. ⌜ r ≡ left s n ⌝ }
-{
-    if !member(s, n) {
-        return s;
-    }
-    let mask = mask(n);
-    let panel = n.panel.0 as usize;
-    let mut t = s;
-    let word = t.words[panel];
-    t.words[panel] = word ^ mask;
-    t
 }
 
 // The numbers that s has and t lacks.

@@ -23,7 +23,7 @@ pub fn join(words: &mut [u64; 8], n: Number)
     if numbers::bad(numbers::MOST_PANELS, n) {
         return;
     }
-    let mask = sets::mask(n);
+    let mask = joining::mask(n);
     let panel = n.panel.0 as usize;
     let word = words[panel];
     words[panel] = word | mask;
@@ -36,7 +36,7 @@ pub fn leave(words: &mut [u64; 8], n: Number)
     if !member(words, n) {
         return;
     }
-    let mask = sets::mask(n);
+    let mask = joining::mask(n);
     let panel = n.panel.0 as usize;
     let word = words[panel];
     words[panel] = word ^ mask;

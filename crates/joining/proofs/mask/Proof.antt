@@ -5,8 +5,8 @@ use native.Mathlib.Omega.{arith}
 use native.Mathlib.Nat.{one-mul, mod-eq-of-lt}
 use lib.Pow.{pow-lt}
 use Rattle.numbers.specs.Numbers.{mostEvents}
-use Rattle.sets.proofs.mask.Statement.{statement}
-use Rattle.sets.proofs.mask.Tie as tie
+use Rattle.joining.proofs.mask.Statement.{statement}
+use Rattle.joining.proofs.mask.Tie as tie
 
 sub-bit : tie.Need-sub-bit
 sub-bit c = search needs

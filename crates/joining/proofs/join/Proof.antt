@@ -4,10 +4,10 @@ use native.Mathlib.Omega.{arith}
 use mathlib.Core.Path.{_≡_, sym, _∙_}
 use mathlib.Core.Bool.{false}
 use Rattle.numbers.specs.Numbers.{mostPanels, badNumber, GoodNumber}
 use Rattle.sets.specs.Sets.{join}
 use Rattle.numbers.proofs.NumberLaws.{good-number}
-use Rattle.sets.proofs.join.Statement.{statement}
-use Rattle.sets.proofs.join.Tie as tie
+use Rattle.joining.proofs.join.Statement.{statement}
+use Rattle.joining.proofs.join.Tie as tie
 
 bad-requires : tie.Need-bad-requires
 bad-requires c κs = search needs

@@ -5,11 +5,11 @@ use mathlib.Core.Path.{_≡_, sym, _∙_}
 use mathlib.Core.Bool.{true}
 use borrow.Author.Tests.{not-true, not-false}
 use Rattle.numbers.specs.Numbers.{mostPanels, GoodNumber}
 use Rattle.sets.specs.Sets.{member, leave}
 use Rattle.numbers.proofs.NumberLaws.{good-number}
 use Rattle.sets.proofs.SetLaws.{member-good}
-use Rattle.sets.proofs.leave.Statement.{statement}
-use Rattle.sets.proofs.leave.Tie as tie
+use Rattle.joining.proofs.leave.Statement.{statement}
+use Rattle.joining.proofs.leave.Tie as tie
 
 member-requires : tie.Need-member-requires
 member-requires c κs = search needs
