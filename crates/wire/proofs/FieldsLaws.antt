@@ -16,11 +16,13 @@ use Rattle.wire.specs.declared.Written.{Written}
 use Rattle.wire.specs.declared.Kind.the-variants.{Weak, Strong, Settlement}
 use Rattle.wire.specs.Layout.{headWidths, numberWidths, bodyWidths, contextWidths, layout, size, sizeOf, encode, fieldsAt, Within}
 use Rattle.wire.specs.Message.{numberFields, bodyFields}
-use Rattle.wire.specs.Reader.{headSize, answered, readAt}
+use Rattle.wire.specs.Reader.{answered, readAt}
+use Rattle.wire.specs.Layout.{headSize}
 use Rattle.wire.specs.Writer.{Wrote}
 use Rattle.wire.specs.Fields.{flag, isSet, fieldsFor, fieldsBytes, fieldsSize, messageFor, messageIn, told, roomTold, roomAfter}
 use Rattle.wire.specs.Fields.{readTold, readAfter, HasRead, writtenTold, HasWritten}
-use Rattle.wire.proofs.LayoutLaws.{fields-then, fields-back, words-within}
+use Rattle.parts.specs.Widths.{settlementWidths, weakWidths}
+use Rattle.parts.proofs.WidthLaws.{fields-then, fields-back, words-within}
 use Rattle.wire.proofs.HeldLaws.{Held}
 
 -- ---- the fields
@@ -29,13 +31,13 @@ use Rattle.wire.proofs.HeldLaws.{Held}
 pub fields-put : (m : Message) (out out₁ out₂ out₃ out₄ : List ℕ)
     → out₁ ≡ sets out 0 (encode headWidths (flag (m .settles) ∷ flag (m .request .strong) ∷ []))
     → out₂ ≡ sets out₁ headSize (encode numberWidths (numberFields (m .request .number)))
-    → out₃ ≡ sets out₂ (sizeOf Settlement) (encode bodyWidths (bodyFields (m .request)))
-    → out₄ ≡ sets out₃ (sizeOf Weak) (encode contextWidths (m .request .context .words)) → out₄ ≡ sets out 0 (fieldsBytes m)
+    → out₃ ≡ sets out₂ (size settlementWidths) (encode bodyWidths (bodyFields (m .request)))
+    → out₄ ≡ sets out₃ (size weakWidths) (encode contextWidths (m .request .context .words)) → out₄ ≡ sets out 0 (fieldsBytes m)
 unfolding fieldsBytes fieldsFor layout size sizeOf
 fields-put m out out₁ out₂ out₃ out₄ flags number body context =
     fields-then out out₁ out₄ 0 headWidths _ (numberWidths ++ bodyWidths ++ contextWidths) _ refl flags
     (fields-then out₁ out₂ out₄ headSize numberWidths _ (bodyWidths ++ contextWidths) _ refl number
-    (fields-then out₂ out₃ out₄ (sizeOf Settlement) bodyWidths _ contextWidths _ refl body context))
+    (fields-then out₂ out₃ out₄ (size settlementWidths) bodyWidths _ contextWidths _ refl body context))
 
 -- a flag comes back
 set-back : (b : Bool) → isSet (flag b) ≡ b

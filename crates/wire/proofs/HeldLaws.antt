@@ -19,7 +19,7 @@ use Rattle.wire.specs.declared.Kind.the-variants.{Weak, Strong}
 use Rattle.wire.specs.Layout.{numberWidths, bodyWidths, contextWidths, layout, size, sizeOf, Within}
 use Rattle.wire.specs.Message.{BusMessage, request, settlement, kindOf, numberFields, bodyFields, contents, fieldsOf}
 use Rattle.wire.specs.Message.{Fits, bare, held, said}
-use Rattle.wire.proofs.LayoutLaws.{words-within}
+use Rattle.parts.proofs.WidthLaws.{words-within}
 use Rattle.wire.proofs.MessageLaws.{weak-least, kind-by, fieldsBy}
 
 -- ---- the message that is held

@@ -1,6 +1,4 @@
 -- The laws of the definitions in `specs/`, for this crate's proofs and for the crates above it.
-pub mod IntegerLaws
-pub mod LayoutLaws
 pub mod MessageLaws
 pub mod HeldLaws
 pub mod ReaderLaws

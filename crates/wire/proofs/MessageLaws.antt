@@ -15,7 +15,7 @@ use Rattle.wire.specs.declared.Kind.the-variants.{Weak, Strong, Settleme
 use Rattle.wire.specs.Layout.{kindNumber, layout, size, sizeOf, encode}
 use Rattle.wire.specs.Message.{BusMessage, request, settlement, kindOf, numberFields, bodyFields, contents, fieldsOf, bytesOf}
 use Rattle.wire.specs.Message.{requestFrom, messageFrom, weakWithContext, Fits}
-use Rattle.wire.specs.Reader.{headSize}
+use Rattle.wire.specs.Layout.{headSize}
 
 -- ---- sizes
 

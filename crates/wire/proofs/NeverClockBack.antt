@@ -12,7 +12,8 @@ use Rattle.wire.specs.declared.Kind.{Kind}
 use Rattle.wire.specs.declared.Kind.the-variants.{Weak, Strong, Settlement}
 use Rattle.wire.specs.Layout.{kindNumber, sizeOf}
 use Rattle.wire.specs.Message.{spareByte, kindOf, weakWithContext}
-use Rattle.wire.specs.Reader.{Outcome, refusalOf, answered, headSize, lengthAt, kindAt, spareAt, refusalAs, readAs, readAt}
+use Rattle.wire.specs.Reader.{Outcome, refusalOf, answered, lengthAt, kindAt, spareAt, refusalAs, readAs, readAt}
+use Rattle.wire.specs.Layout.{headSize}
 use Rattle.wire.specs.Writer.{writeRefusal}
 use Rattle.wire.specs.NeverClockBack.{NeverClockBack}
 

@@ -11,7 +11,8 @@ use Rattle.wire.specs.declared.Kind.{Kind}
 use Rattle.wire.specs.declared.Kind.the-variants.{Weak, Strong, Settlement}
 use Rattle.wire.specs.Layout.{kindNumber, sizeOf, fieldsAt}
 use Rattle.wire.specs.Message.{spareByte, messageFrom}
-use Rattle.wire.specs.Reader.{message, end, refused, headSize, lengthAt, kindAt, spareAt, refusalAs, readAs, readAt}
+use Rattle.wire.specs.Reader.{message, end, refused, lengthAt, kindAt, spareAt, refusalAs, readAs, readAt}
+use Rattle.wire.specs.Layout.{headSize}
 
 -- ---- a message of a kind
 

@@ -25,10 +25,11 @@ use Rattle.wire.specs.Layout.{lengthField, kindField, spareField, contex
 use Rattle.wire.specs.Message.{BusMessage, request, settlement, kindOf, spareByte, contents, fieldsOf, bytesOf, messageFrom}
 use Rattle.wire.specs.Message.{weakWithContext, ContextWords, Fits}
 use Rattle.wire.specs.Reader.{Outcome, message, end, refused, answered}
-use Rattle.wire.specs.Reader.{headSize, lengthAt, kindAt, spareAt, refusalAs, readAs, readAt}
+use Rattle.wire.specs.Reader.{lengthAt, kindAt, spareAt, refusalAs, readAs, readAt}
+use Rattle.wire.specs.Layout.{headSize}
 use Rattle.wire.specs.Writer.{writeRefusal, writeAnswer, afterWrite}
-use Rattle.wire.proofs.IntegerLaws.{Bytes}
-use Rattle.wire.proofs.LayoutLaws.{fields-back, run-back, decode-within, within-drop, words-small}
+use Rattle.parts.proofs.IntegerLaws.{Bytes}
+use Rattle.parts.proofs.WidthLaws.{fields-back, run-back, decode-within, within-drop, words-small}
 use Rattle.wire.proofs.MessageLaws.{kind-from, message-back, head-least, settlement-least}
 use Rattle.wire.proofs.ReaderLaws.{LaidOut, laid-out, accepted-laid-out, refused-as, read-as}
 use Rattle.wire.proofs.ReaderLaws.{at-end, head-cut, of-kind, of-no-kind}

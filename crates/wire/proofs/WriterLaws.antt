@@ -15,11 +15,12 @@ use Rattle.wire.specs.declared.Kind.the-variants.{Weak, Strong, Settleme
 use Rattle.wire.specs.Layout.{kindNumber, headWidths, numberWidths, bodyWidths, contextWidths, layout, size, sizeOf, encode}
 use Rattle.wire.specs.Message.{BusMessage, kindOf, numberFields, bodyFields, contents, fieldsOf, bytesOf}
 use Rattle.wire.specs.Message.{weakWithContext, Fits, said}
-use Rattle.wire.specs.Reader.{headSize}
+use Rattle.wire.specs.Layout.{headSize}
 use Rattle.wire.specs.Writer.{writeRefusal, writeAnswer, afterWrite}
 use Rattle.wire.proofs.MessageLaws.{fieldsBy, bytes-by}
 use Rattle.wire.proofs.HeldLaws.{said-settlement, said-request, kind-said}
-use Rattle.wire.proofs.LayoutLaws.{length-encode, length-within, fields-then}
+use Rattle.parts.specs.Widths.{settlementWidths, weakWidths}
+use Rattle.parts.proofs.WidthLaws.{length-encode, length-within, fields-then}
 
 -- a message has as many bytes as its kind says
 pub length-bytes : (m : BusMessage) → Fits m → length (bytesOf m) ≡ sizeOf (kindOf m)
@@ -85,7 +86,7 @@ module _ (m : Message) (k : Kind) (known : k ≡ kindOf (said m)) (out out₁ ou
 
     -- with the body, a weak request
     module _ (asks : m .settles ≡ false) (out₃ : List ℕ)
-        (body : out₃ ≡ sets out₂ (sizeOf Settlement) (encode bodyWidths (bodyFields (m .request))))
+        (body : out₃ ≡ sets out₂ (size settlementWidths) (encode bodyWidths (bodyFields (m .request))))
       where
         bytes-are : (b : Bool) → m .request .strong ≡ b
             → sets out 0 (encode (layout (cond b Strong Weak)) (fieldsBy (m .request) b)) ≡ sets out 0 (bytesOf (said m))
@@ -103,12 +104,12 @@ module _ (m : Message) (k : Kind) (known : k ≡ kindOf (said m)) (out out₁ ou
 
         -- with the context, a strong one
         pub strong-put : m .request .strong ≡ true → (out₄ : List ℕ)
-            → out₄ ≡ sets out₃ (sizeOf Weak) (encode contextWidths (m .request .context .words))
+            → out₄ ≡ sets out₃ (size weakWidths) (encode contextWidths (m .request .context .words))
             → out₄ ≡ sets out 0 (bytesOf (said m))
         unfolding layout size sizeOf
         strong-put e out₄ context =
             fields-then out out₁ out₄ 0 headWidths _ (numberWidths ++ bodyWidths ++ contextWidths) _ refl
             (head-of Strong (kind-said m k known asks true e))
             (fields-then out₁ out₂ out₄ headSize numberWidths _ (bodyWidths ++ contextWidths) _ refl number
-            (fields-then out₂ out₃ out₄ (sizeOf Settlement) bodyWidths _ contextWidths _ refl body context))
+            (fields-then out₂ out₃ out₄ (size settlementWidths) bodyWidths _ contextWidths _ refl body context))
             ∙ bytes-are true e

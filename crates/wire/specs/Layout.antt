@@ -1,12 +1,13 @@
--- The layout of bus messages, document 01's table: for each kind the widths of its fields in order, and the fields' places. Sizes,
--- reading and writing follow from it.
-use Prim.Native.Nat.{ℕ, suc, _+_, _^_, _<_}
-use mathlib.Core.List.{List, [], _∷_, _++_}
-use lib.ListN.{replicate}
-use Rattle.numbers.specs.Numbers.{mostPanels}
-use Rattle.wire.specs.Integers.{integerAt, integerBytes}
+-- The layout of bus messages, document 01's table: for each kind its number and the widths of its fields in order. Sizes, reading and
+-- writing follow from it. The widths, and what follows for any widths, are those of `parts`, passed on.
+use Prim.Native.Nat.{ℕ}
+use mathlib.Core.List.{List}
 use Rattle.wire.specs.declared.Kind.{Kind}
 use Rattle.wire.specs.declared.Kind.the-variants.{Weak, Strong, Settlement}
+use Rattle.parts.specs.Widths.{settlementWidths, weakWidths, strongWidths}
+unfoldable pub use Rattle.parts.specs.Widths.{size, decode, encode}
+pub use Rattle.parts.specs.Widths.{headWidths, numberWidths, bodyWidths, wordWidth, contextWidths, headSize, Within}
+pub use Rattle.parts.specs.Widths.{lengthField, kindField, spareField, contextField}
 
 -- document 01's number of each kind
 abbrev pub kindNumber : Kind → ℕ
@@ -14,94 +15,11 @@ kindNumber Weak = 1
 kindNumber Strong = 2
 kindNumber Settlement = 3
 
--- ---- the fields, by their widths in bytes
-
--- length, kind
-abbrev pub headWidths : List ℕ
-headWidths = 2 ∷ 2 ∷ []
-
--- panel, event
-abbrev pub numberWidths : List ℕ
-numberWidths = 1 ∷ 1 ∷ []
-
--- clock, code, r, q, spare, amount
-abbrev pub bodyWidths : List ℕ
-bodyWidths = 4 ∷ 1 ∷ 1 ∷ 1 ∷ 1 ∷ 4 ∷ []
-
--- a word of the context
-abbrev pub wordWidth : ℕ
-wordWidth = 8
-
--- the words of the context, one for each panel
-abbrev pub contextWidths : List ℕ
-contextWidths = replicate mostPanels wordWidth
-
 -- the fields of each kind
 unfoldable pub layout : Kind → List ℕ
-layout Weak = headWidths ++ numberWidths ++ bodyWidths
-layout Strong = headWidths ++ numberWidths ++ bodyWidths ++ contextWidths
-layout Settlement = headWidths ++ numberWidths
-
--- ---- the fields, by their places in a layout that has them
-
-abbrev pub lengthField : ℕ
-lengthField = 0
-
-abbrev pub kindField : ℕ
-kindField = suc lengthField
-
-abbrev pub panelField : ℕ
-panelField = suc kindField
-
-abbrev pub eventField : ℕ
-eventField = suc panelField
-
-abbrev pub clockField : ℕ
-clockField = suc eventField
-
-abbrev pub codeField : ℕ
-codeField = suc clockField
-
-abbrev pub rField : ℕ
-rField = suc codeField
-
-abbrev pub qField : ℕ
-qField = suc rField
-
-abbrev pub spareField : ℕ
-spareField = suc qField
-
-abbrev pub amountField : ℕ
-amountField = suc spareField
-
--- the first word of the context
-abbrev pub contextField : ℕ
-contextField = suc amountField
-
--- ---- what follows for any widths
-
--- the bytes of fields of these widths
-unfoldable pub size : List ℕ → ℕ
-size [] = 0
-size (w ∷ ws) = w + size ws
-
--- the values of fields of these widths, from place at of s on
-unfoldable pub decode : List ℕ → List ℕ → ℕ → List ℕ
-decode [] s at = []
-decode (w ∷ ws) s at = integerAt s at w ∷ decode ws s (at + w)
-
--- the bytes of these values in fields of these widths
-unfoldable pub encode : List ℕ → List ℕ → List ℕ
-encode [] vs = []
-encode (w ∷ ws) [] = []
-encode (w ∷ ws) (v ∷ vs) = integerBytes w v ++ encode ws vs
-
--- there is a value for each width, and none is wider
-abbrev pub Within : List ℕ → List ℕ → Type 0
-Within [] [] = Unit {0}
-Within [] (v ∷ vs) = ⊥
-Within (w ∷ ws) [] = ⊥
-Within (w ∷ ws) (v ∷ vs) = (v < 256 ^ w) × Within ws vs
+layout Weak = weakWidths
+layout Strong = strongWidths
+layout Settlement = settlementWidths
 
 -- ---- what follows for a kind
 

@@ -1,18 +1,19 @@
--- Bus messages, the fields they have, and the form in which the code holds them.
+-- Bus messages, the fields they have, and the form in which the code holds them. The fields of a number and of a body are those of
+-- `parts`, passed on.
 use Prim.Native.Nat.{ℕ}
 use mathlib.Core.Bool.{Bool, true, false, not, _&&_, cond}
 use mathlib.Core.List.{List, [], _∷_, _++_}
-use lib.ListN.{getD, drop}
+use lib.ListN.{drop}
 use Rattle.numbers.specs.declared.Number.{Number}
 use Rattle.sets.specs.declared.Context.{Context}
 use Rattle.request.specs.declared.Request.{Request}
-use Rattle.numbers.specs.Numbers.{numbered, noNumber}
+use Rattle.numbers.specs.Numbers.{noNumber}
 use Rattle.sets.specs.Sets.{emptySet, setOf, isEmpty, Words}
 use Rattle.wire.specs.declared.Message.{Message}
 use Rattle.wire.specs.declared.Kind.{Kind}
 use Rattle.wire.specs.declared.Kind.the-variants.{Weak, Strong, Settlement}
-use Rattle.wire.specs.Layout.{kindNumber, layout, encode, sizeOf, Within}
-use Rattle.wire.specs.Layout.{panelField, eventField, clockField, codeField, rField, qField, amountField, contextField}
+use Rattle.wire.specs.Layout.{kindNumber, layout, encode, sizeOf, Within, contextField}
+pub use Rattle.parts.specs.Contents.{spareByte, numberFields, bodyFields, numberFrom, requestFrom}
 
 -- a bus message: a request, weak or strong, or the settlement of a number
 pub data BusMessage : Type 0 where
@@ -25,19 +26,6 @@ kindOf (request r) = cond (r .strong) Strong Weak
 kindOf (settlement n) = Settlement
 
 -- ---- the fields of a message, in the order of its layout
-
--- the spare byte
-abbrev pub spareByte : ℕ
-spareByte = 0
-
--- panel, event
-abbrev pub numberFields : Number → List ℕ
-numberFields n = n .panel .0 ∷ n .event .0 ∷ []
-
--- clock, code, r, q, spare, amount
-abbrev pub bodyFields : Request → List ℕ
-bodyFields r =
-    r .clock .0 ∷ r .operation .code ∷ r .operation .r ∷ r .operation .q ∷ spareByte ∷ r .operation .amount ∷ []
 
 -- the words of a strong request's context
 abbrev pub contextFields : Request → List ℕ
@@ -57,26 +45,6 @@ unfoldable pub bytesOf : BusMessage → List ℕ
 bytesOf m = encode (layout (kindOf m)) (fieldsOf m)
 
 -- ---- the message with given fields
-
--- the number
-abbrev pub numberFrom : List ℕ → Number
-numberFrom f = numbered (getD f panelField 0) (getD f eventField 0)
-
--- the request, given its strength and its context
-abbrev pub requestFrom : List ℕ → Bool → Context → Request
-requestFrom f strong context =
-    record {
-      number = numberFrom f;
-      clock = record { 0 = getD f clockField 0 };
-      operation = record {
-        code = getD f codeField 0;
-        r = getD f rField 0;
-        q = getD f qField 0;
-        amount = getD f amountField 0;
-      };
-      strong = strong;
-      context = context;
-    }
 
 -- the message of a kind with these fields; a weak request's context is empty, and a settlement has a number and nothing else
 unfoldable pub messageFrom : Kind → List ℕ → BusMessage

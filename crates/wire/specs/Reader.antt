@@ -10,7 +10,7 @@ use Rattle.wire.specs.declared.Answer.the-variants.{Message as aMessage,
 use Rattle.wire.specs.declared.Reading.{Reading}
 use Rattle.wire.specs.declared.Kind.{Kind}
 use Rattle.wire.specs.declared.Kind.the-variants.{Weak, Strong, Settlement}
-use Rattle.wire.specs.Layout.{kindNumber, headWidths, size, decode, sizeOf, fieldsAt, lengthField, kindField, spareField}
+use Rattle.wire.specs.Layout.{kindNumber, headWidths, headSize, decode, sizeOf, fieldsAt, lengthField, kindField, spareField}
 use Rattle.wire.specs.Message.{BusMessage, spareByte, messageFrom, held, noMessage}
 
 -- document 01's number for each answer: a refusal's own, and 0 for the others
@@ -34,10 +34,6 @@ unfoldable pub answered : Outcome → Reading
 answered (message m n) = record { answer = aMessage; message = held m; taken = n }
 answered end = untaken End
 answered (refused w) = untaken (Refused w)
-
--- the bytes of length and kind
-abbrev pub headSize : ℕ
-headSize = size headWidths
 
 -- the length that stands at a place
 unfoldable pub lengthAt : List ℕ → ℕ → ℕ

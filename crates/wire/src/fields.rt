@@ -4,10 +4,12 @@
 // place of its kind whether the request is strong. The outcome is one number, `told` of `specs/Fields`.
 use super::Answer;
 use super::Message;
-use super::integers;
-use super::layout;
 use super::reader;
 use super::writer;
+use parts::integers;
+use parts::places;
+use parts::reading;
+use parts::writing;
 use request::refusal;
 ghost use mathlib.Core.Path.{_≡_};
 ghost use Prim.Native.Nat.{_≤_};
@@ -17,11 +19,11 @@ ghost use Rattle.wire.specs.Fields.{flag as flagOf, fieldsSize, fieldsBy
 ghost use Rattle.wire.specs.Fields.{told as toldBy, roomTold, roomAfter, HasRead, HasWritten};
 
 // The bytes of the fields.
-pub const FIELDS_SIZE: usize = layout::STRONG_SIZE;
+pub const FIELDS_SIZE: usize = places::STRONG_SIZE;
 
-const SETTLES_AT: usize = layout::LENGTH_AT;
+const SETTLES_AT: usize = places::LENGTH_AT;
 
-const STRONG_AT: usize = layout::KIND_AT;
+const STRONG_AT: usize = places::KIND_AT;
 
 // Reads the message at a place of s and puts its fields at the front of out: the bytes taken, 0 at the end, or 256 times the refusal,
 // which is no room for a message whose fields out cannot hold. Without a message, out is left alone.
@@ -69,11 +71,11 @@ fn put_fields(out: &mut [u8], m: Message)
     let request = m.request;
     let settles = flag(m.settles);
     let strong = flag(request.strong);
-    integers::put_integer(out, SETTLES_AT, layout::LENGTH_WIDTH, settles);
-    integers::put_integer(out, STRONG_AT, layout::KIND_WIDTH, strong);
-    writer::put_number(out, request.number);
-    writer::put_body(out, request);
-    writer::put_context(out, request.context);
+    integers::put_integer(out, SETTLES_AT, places::LENGTH_WIDTH, settles);
+    integers::put_integer(out, STRONG_AT, places::KIND_WIDTH, strong);
+    writing::put_number(out, request.number);
+    writing::put_body(out, request);
+    writing::put_context(out, request.context);
 }
 
 // The message of these fields.
@@ -81,10 +83,10 @@ fn message_in(fields: &[u8]) -> Message
     requires { ⌜ fieldsSize ≤ length (now fields) ⌝ }
     ensures { λ m. ⌜ m ≡ messageIn (now (fields .entry)) ⌝ }
 {
-    let settles = integers::integer_at(fields, SETTLES_AT, layout::LENGTH_WIDTH);
-    let strong = integers::integer_at(fields, STRONG_AT, layout::KIND_WIDTH);
-    let context = reader::context_at(fields, 0);
-    let request = reader::request_at(fields, 0, strong != 0, context);
+    let settles = integers::integer_at(fields, SETTLES_AT, places::LENGTH_WIDTH);
+    let strong = integers::integer_at(fields, STRONG_AT, places::KIND_WIDTH);
+    let context = reading::context_at(fields, 0);
+    let request = reading::request_at(fields, 0, strong != 0, context);
     Message {
         settles: settles != 0,
         request: request,

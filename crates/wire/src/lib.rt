@@ -1,14 +1,13 @@
 // Bus messages, document 01's kinds 1 to 3: a reader of a lent run of bytes and a writer into a lent part.
 //
 // Here are the types. The calls are `reader::read` and `writer::write`; `held` makes messages and tells their kind, `layout` has
-// the numbers and sizes of the kinds and where each field stands, `fields` reads and writes for callers in other languages. The
+// the numbers and sizes of the kinds, `fields` reads and writes for callers in other languages. The
 // contracts cite `readAt`, `writeAnswer` and `afterWrite` of `specs/`; that messages read back as written and write back as read is in
 // `proofs/RoundTrip.antt`.
 use request::Request;
 
 pub mod fields;
 pub mod held;
-mod integers;
 pub mod layout;
 pub mod reader;
 pub mod writer;

@@ -4,25 +4,18 @@ use super::Kind;
 use super::Message;
 use super::Reading;
 use super::held;
-use super::integers;
 use super::layout;
-use numbers::Clock;
-use numbers::EventNo;
-use numbers::Number;
-use numbers::PanelNo;
-use request::Operation;
-use request::Request;
+use parts::integers;
+use parts::places;
+use parts::reading;
 use request::refusal;
-use sets::Context;
 ghost use mathlib.Core.Path.{_≡_};
 ghost use Prim.Native.Nat.{_+_, _≤_};
 ghost use lib.ListN.{length};
-ghost use Rattle.sets.specs.Sets.{setOf};
-ghost use Rattle.wire.specs.Layout.{sizeOf, fieldsAt, contextWidths, decode};
-ghost use Rattle.wire.specs.declared.Kind.the-variants.{Weak, Strong, Settlement};
-ghost use Rattle.wire.specs.Message.{numberFrom, requestFrom, messageFrom, held as heldFor};
+ghost use Rattle.wire.specs.Layout.{sizeOf, headSize, fieldsAt};
+ghost use Rattle.wire.specs.Message.{messageFrom, held as heldFor};
 ghost use Rattle.wire.specs.Reader.{answered, untaken as untakenBy, refusalOf};
-ghost use Rattle.wire.specs.Reader.{headSize, spareAt, refusalAs, readAs, readAt};
+ghost use Rattle.wire.specs.Reader.{spareAt, refusalAs, readAs, readAt};
 
 // The message at a place with the bytes taken; the end, where no byte is left; or a refusal, which takes nothing.
 pub fn read(s: &[u8], at: usize) -> Reading
@@ -32,10 +25,10 @@ pub fn read(s: &[u8], at: usize) -> Reading
     if len <= at {
         return untaken(Answer::End);
     }
-    if len - at < layout::HEAD_SIZE {
+    if len - at < places::HEAD_SIZE {
         return untaken(Answer::Refused(refusal::CUT_SHORT));
     }
-    let kind = integers::integer_at(s, at + layout::KIND_AT, layout::KIND_WIDTH);
+    let kind = integers::integer_at(s, at + places::KIND_AT, places::KIND_WIDTH);
     if kind == layout::WEAK as u64 {
         return read_as(s, at, Kind::Weak);
     }
@@ -82,7 +75,7 @@ fn refusal_as(s: &[u8], at: usize, kind: Kind) -> u8
     ensures { λ r. ⌜ r ≡ refusalAs kind (now (s .entry)) at ⌝ }
 {
     let size = layout::size_of(kind);
-    let length = integers::integer_at(s, at + layout::LENGTH_AT, layout::LENGTH_WIDTH);
+    let length = integers::integer_at(s, at + places::LENGTH_AT, places::LENGTH_WIDTH);
     if length != size as u64 {
         return refusal::BAD_LENGTH;
     }
@@ -101,8 +94,8 @@ fn spare_at(s: &[u8], at: usize, kind: Kind) -> u8
     ensures { λ r. ⌜ r ≡ spareAt kind (now (s .entry)) at ⌝ }
 {
     match kind {
-        Kind::Weak => s[at + layout::SPARE_AT],
-        Kind::Strong => s[at + layout::SPARE_AT],
+        Kind::Weak => s[at + places::SPARE_AT],
+        Kind::Strong => s[at + places::SPARE_AT],
         Kind::Settlement => 0,
     }
 }
@@ -115,70 +108,19 @@ fn message_at(s: &[u8], at: usize, kind: Kind) -> Message
     match kind {
         Kind::Weak => {
             let context = sets::empty();
-            let request = request_at(s, at, false, context);
+            let request = reading::request_at(s, at, false, context);
             held::of_request(request)
         }
         Kind::Strong => {
-            let context = context_at(s, at);
-            let request = request_at(s, at, true, context);
+            let context = reading::context_at(s, at);
+            let request = reading::request_at(s, at, true, context);
             held::of_request(request)
         }
         Kind::Settlement => {
-            let number = number_at(s, at);
+            let number = reading::number_at(s, at);
             held::of_settlement(number)
         }
     }
-}
-
-// The number that a message at a place names.
-fn number_at(s: &[u8], at: usize) -> Number
-    requires { ⌜ at + sizeOf Settlement ≤ length (now s) ⌝ }
-    ensures { λ r. ⌜ r ≡ numberFrom (fieldsAt Settlement (now (s .entry)) at) ⌝ }
-{
-    Number {
-        panel: PanelNo(s[at + layout::PANEL_AT]),
-        event: EventNo(s[at + layout::EVENT_AT]),
-    }
-}
-
-// The request of a message at a place, with its strength and its context.
-pub(crate) fn request_at(s: &[u8], at: usize, strong: bool, context: Context) -> Request
-    requires { ⌜ at + sizeOf Weak ≤ length (now s) ⌝ }
-    ensures { λ r. ⌜ r ≡ requestFrom (fieldsAt Weak (now (s .entry)) at) strong context ⌝ }
-{
-    let clock = integers::integer_at(s, at + layout::CLOCK_AT, layout::CLOCK_WIDTH) as u32;
-    let amount = integers::integer_at(s, at + layout::AMOUNT_AT, layout::AMOUNT_WIDTH) as u32;
-    let code = s[at + layout::CODE_AT];
-    let r = s[at + layout::R_AT];
-    let q = s[at + layout::Q_AT];
-    Request {
-        number: number_at(s, at),
-        clock: Clock(clock),
-        operation: Operation {
-            code: code,
-            r: r,
-            q: q,
-            amount: amount,
-        },
-        strong: strong,
-        context: context,
-    }
-}
-
-// The context of a strong request at a place.
-pub(crate) fn context_at(s: &[u8], at: usize) -> Context
-    requires { ⌜ at + sizeOf Strong ≤ length (now s) ⌝ }
-    ensures { λ r. ⌜ r ≡ setOf (decode contextWidths (now (s .entry)) (at + sizeOf Weak)) ⌝ }
-{
-    let mut words = [0u64; layout::WORDS];
-    let mut from = at + layout::CONTEXT_AT;
-    let mut p = 0;
-    while p < layout::WORDS {
-        words[p] = integers::word_at(s, from);
-        from += layout::WORD_WIDTH;
-        p += 1;
-    }
-    Context { words: words }
 }
 
 // An answer that takes nothing.

@@ -16,7 +16,8 @@ unfolding sizeOf layout size
 integer-at-requires-2 c κs = omega arith
 
 context-at-requires : tie.Need-context-at-requires
-context-at-requires c κs = search needs
+unfolding sizeOf layout size
+context-at-requires c κs = omega arith
 
 request-at-requires : tie.Need-request-at-requires
 unfolding sizeOf layout size

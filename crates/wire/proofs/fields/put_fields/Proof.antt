@@ -1,7 +1,7 @@
 -- `fields::put_fields` meets its contract, part by part.
 use native.Mathlib.Omega.{arith}
 use Rattle.wire.specs.Layout.{layout, size, sizeOf}
-use Rattle.wire.proofs.LayoutLaws.{field-then, field-last}
+use Rattle.parts.proofs.WidthLaws.{field-then, field-last}
 use Rattle.wire.proofs.FieldsLaws.{fields-put}
 use borrow.Author.Needs.{needs}
 use Rattle.wire.proofs.fields.put_fields.Statement.{statement}
@@ -30,7 +30,8 @@ unfolding sizeOf layout size
 put-body-requires c κs = omega arith
 
 put-context-requires : tie.Need-put-context-requires
-put-context-requires c κs = search needs
+unfolding sizeOf layout size
+put-context-requires c κs = omega arith
 
 same-length : tie.Need-same-length
 same-length c = search needs

@@ -14,6 +14,7 @@ empty-requires : tie.Need-empty-requires
 empty-requires c κs = tt
 
 request-at-requires : tie.Need-request-at-requires
+unfolding sizeOf layout size
 request-at-requires c κs = rw (c .before .enum-told .given .1) at (c .before .before .before .before .pre)
 
 of-request-requires : tie.Need-of-request-requires
@@ -23,6 +24,7 @@ enum-told-2 : tie.Need-enum-told-2
 enum-told-2 c = search needs
 
 context-at-requires : tie.Need-context-at-requires
+unfolding sizeOf layout size
 context-at-requires c κs = rw (c .enum-told2 .given .1) at (c .before .before .before .pre)
 
 request-at-requires-2 : tie.Need-request-at-requires-2
@@ -36,6 +38,7 @@ enum-told-3 : tie.Need-enum-told-3
 enum-told-3 c = search needs
 
 number-at-requires : tie.Need-number-at-requires
+unfolding sizeOf layout size
 number-at-requires c κs = rw (c .enum-told3 .given .1) at (c .before .before .before .pre)
 
 of-settlement-requires : tie.Need-of-settlement-requires

@@ -1,7 +1,7 @@
 -- `writer::put_head` meets its contract, field by field.
 use native.Mathlib.Omega.{arith}
 use Rattle.wire.specs.Layout.{size}
-use Rattle.wire.proofs.LayoutLaws.{field-then, field-last}
+use Rattle.parts.proofs.WidthLaws.{field-then, field-last}
 use borrow.Author.Needs.{needs}
 use Rattle.wire.proofs.writer.put_head.Statement.{statement}
 use Rattle.wire.proofs.writer.put_head.Tie as tie

@@ -39,6 +39,7 @@ returns c =
     settlement-put (s .args .m) (s .args .kind) (s .pre .0) _ _ _ (headOf n .put-head .ensures) (n .put-number .ensures) (c .if1 .taken)
 
 put-body-requires : tie.Need-put-body-requires
+unfolding sizeOf layout size
 put-body-requires c κs =
     let n = c .before .before .before .before in
     let s = startOf n in
@@ -57,6 +58,7 @@ returns-2 c =
     (d .before .before .if1 .left) _ (d .put-body .ensures) (not-true _ (c .if2 .taken))
 
 put-context-requires : tie.Need-put-context-requires
+unfolding sizeOf layout size
 put-context-requires c κs =
     let d = c .before .before .before .before .before in
     let n = d .before .before .before .before .before in

@@ -1,0 +1,67 @@
+// The parts of a message from its bytes: the number, the request and its context.
+use super::integers;
+use super::places;
+use numbers::Clock;
+use numbers::EventNo;
+use numbers::Number;
+use numbers::PanelNo;
+use request::Operation;
+use request::Request;
+use sets::Context;
+ghost use mathlib.Core.Path.{_≡_};
+ghost use Prim.Native.Nat.{_+_, _≤_};
+ghost use lib.ListN.{length};
+ghost use Rattle.sets.specs.Sets.{setOf};
+ghost use Rattle.parts.specs.Widths.{settlementWidths, weakWidths, strongWidths, contextWidths, size, decode};
+ghost use Rattle.parts.specs.Contents.{numberFrom, requestFrom};
+
+// The number that a message at a place names.
+pub fn number_at(s: &[u8], at: usize) -> Number
+    requires { ⌜ at + size settlementWidths ≤ length (now s) ⌝ }
+    ensures { λ r. ⌜ r ≡ numberFrom (decode settlementWidths (now (s .entry)) at) ⌝ }
+{
+    Number {
+        panel: PanelNo(s[at + places::PANEL_AT]),
+        event: EventNo(s[at + places::EVENT_AT]),
+    }
+}
+
+// The request of a message at a place, with its strength and its context.
+pub fn request_at(s: &[u8], at: usize, strong: bool, context: Context) -> Request
+    requires { ⌜ at + size weakWidths ≤ length (now s) ⌝ }
+    ensures { λ r. ⌜ r ≡ requestFrom (decode weakWidths (now (s .entry)) at) strong context ⌝ }
+{
+    let clock = integers::integer_at(s, at + places::CLOCK_AT, places::CLOCK_WIDTH) as u32;
+    let amount = integers::integer_at(s, at + places::AMOUNT_AT, places::AMOUNT_WIDTH) as u32;
+    let code = s[at + places::CODE_AT];
+    let r = s[at + places::R_AT];
+    let q = s[at + places::Q_AT];
+    Request {
+        number: number_at(s, at),
+        clock: Clock(clock),
+        operation: Operation {
+            code: code,
+            r: r,
+            q: q,
+            amount: amount,
+        },
+        strong: strong,
+        context: context,
+    }
+}
+
+// The context of a strong request at a place.
+pub fn context_at(s: &[u8], at: usize) -> Context
+    requires { ⌜ at + size strongWidths ≤ length (now s) ⌝ }
+    ensures { λ r. ⌜ r ≡ setOf (decode contextWidths (now (s .entry)) (at + size weakWidths)) ⌝ }
+{
+    let mut words = [0u64; places::WORDS];
+    let mut from = at + places::CONTEXT_AT;
+    let mut p = 0;
+    while p < places::WORDS {
+        words[p] = integers::word_at(s, from);
+        from += places::WORD_WIDTH;
+        p += 1;
+    }
+    Context { words: words }
+}
