@@ -1,13 +1,13 @@
--- Laws of places: parts of two lists that agree; insertion in an order is insertion at a place, and the parts, the length and the
--- counts of a list with an element inserted; what a test keeps.
+-- Laws of places: parts of a list and of two lists that agree; insertion in an order is insertion at a place, and the parts, the length
+-- and the counts of a list with an element inserted; what a test keeps.
 use Prim.Native.Nat.{ℕ, suc, zero, _+_, _-_, _≤_, _<_}
 use native.Mathlib.Omega.{arith}
 use native.Mathlib.Nat.{zero-add, suc-add, le-refl}
 use mathlib.Core.Path.{_≡_, refl, sym, ap, _∙_}
 use mathlib.Core.Bool.{Bool, true, false, not, cond}
 use mathlib.Core.List.{List, [], _∷_, _++_}
-use lib.ListN.{length, take, drop, getD, set, replicate}
-use lib.Seq.{take-take, drop-drop, getD-drop, slice-empty}
+use lib.ListN.{length, take, drop, getD, set, replicate, take-append-drop}
+use lib.Seq.{slice, take-take, take-add, drop-drop, drop-append-le, drop-at, getD-drop, length-take-le, slice-empty}
 use lib.Dec.{eqb}
 use borrow.Author.Tests.{eqb-true}
 use Rattle.lists.specs.Lists.{one, count, consIf, keep, insert}
@@ -27,6 +27,27 @@ module _ {A : Type 0} where
   getD-further n k s t d h e =
       let sum : n + (k - n) ≡ k = omega arith in
       rw (← sum) (sym (getD-drop n s (k - n) d) ∙ ap (λ (l : List A). getD l (k - n) d) e ∙ getD-drop n t (k - n) d)
+
+  module _ (k n : ℕ) (high : k ≤ n) where
+    -- the first n are the first k, then the part k..n
+    pub take-slice : (l : List A) → take n l ≡ take k l ++ slice k n l
+    take-slice l = sym (take-append-drop k (take n l)) ∙ ap (λ (r : List A). r ++ slice k n l) (take-take k n l high)
+
+    -- the part i..n is the part i..k, then the part k..n
+    pub slice-split : (i : ℕ) (l : List A) → i ≤ k → k ≤ length l → slice i n l ≡ slice i k l ++ slice k n l
+    slice-split i l low inside =
+        ap (drop i) (take-slice l) ∙ drop-append-le i (take k l) (slice k n l) (omega (arith, length-take-le k l inside))
+
+    -- the part k..n is the first n - k of what stands from place k on
+    slice-from : (l : List A) → k ≤ length l → slice k n l ≡ take (n - k) (drop k l)
+    slice-from l inside =
+        let sum : k + (n - k) ≡ n = omega arith in
+        ap (λ (j : ℕ). drop k (take j l)) (sym sum) ∙ ap (drop k) (take-add k (n - k) l)
+        ∙ drop-at (take k l) (take (n - k) (drop k l)) k (length-take-le k l inside)
+
+    -- two lists that agree from place k on have the same part k..n
+    pub slice-further : (s t : List A) → k ≤ length s → k ≤ length t → drop k s ≡ drop k t → slice k n s ≡ slice k n t
+    slice-further s t first second e = slice-from s first ∙ ap (take (n - k)) e ∙ sym (slice-from t second)
 
   -- ---- the place
 
