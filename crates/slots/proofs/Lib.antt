@@ -2,3 +2,4 @@
 pub mod SlotLaws
 pub mod SeparationLaws
 pub mod SettlementLaws
+pub mod MovingLaws

@@ -1,9 +1,9 @@
 -- The order after a settlement, and the steps by which it is made.
-use Prim.Native.Nat.{ℕ, _+_, _≤_}
+use Prim.Native.Nat.{ℕ, _+_, _-_, _≤_}
 use mathlib.Core.Path.{_≡_}
 use mathlib.Core.Bool.{Bool, false, not, _||_}
 use mathlib.Core.List.{List, _∷_, _++_}
-use lib.ListN.{length, take, drop}
+use lib.ListN.{length, take, drop, getD}
 use lib.Seq.{slice}
 use lib.Dec.{eqb}
 use Rattle.lists.specs.Lists.{count, keep}
@@ -52,3 +52,17 @@ pub record Settled (xs : List ℕ) (from to : ℕ) (words : List ℕ) (s : ℕ) 
   pub first : take to ys ≡ take from xs ++ settled words s (slice from to xs)
   pub rest : drop to ys ≡ drop to xs
   pub long : length ys ≡ mostSlots
+
+-- ---- the last place that a settlement moves
+
+-- what a walk down from `to` to that place asks: from some place on up to `to`, the slots are as a settlement of s asks
+pub record MovingAsks (order : List ℕ) (to : ℕ) (words : List ℕ) (s : ℕ) : Type 0 where
+  pub from : ℕ
+  pub asks : SettlementAsks order from to words s
+
+-- r is the place behind it: the slot before r does not stay, and all those from r on do
+pub record MovingEnd (order : List ℕ) (to : ℕ) (words : List ℕ) (s r : ℕ) : Type 0 where
+  pub some : 1 ≤ r
+  pub inside : r ≤ to
+  pub last : stays words s (getD order (r - 1) 0) ≡ false
+  pub behind : count (λ t. not (stays words s t)) (slice r to order) ≡ 0

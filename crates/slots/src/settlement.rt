@@ -4,7 +4,7 @@ ghost use mathlib.Core.Path.{_≡_};
 ghost use Prim.Native.Nat.{_<_};
 ghost use lib.Seq.{paste};
 ghost use Rattle.ordering.specs.Slots.{mostSlots, inWords};
-ghost use Rattle.slots.specs.Settlement.{SeparationAsks, Separated, PutAsks, SettlementAsks, Settled};
+ghost use Rattle.slots.specs.Settlement.{MovingAsks, MovingEnd, SeparationAsks, Separated, PutAsks, SettlementAsks, Settled};
 
 const EVENTS: u16 = numbers::MOST_EVENTS as u16;
 
@@ -17,6 +17,23 @@ pub fn in_words(words: &[u64; 8], t: u16) -> bool
     let bit = (t % EVENTS) as u64;
     let word = words[panel];
     (word >> bit) % 2 == 1
+}
+
+// The place behind the last that a settlement of that slot with that context moves: goes down from `to` to the first that is named or
+// is the slot itself, which stands there.
+fn moving_end<'a>(order: &'a [u16; 512], to: usize, words: &'a [u64; 8], slot: u16) -> usize
+    requires { ⌜ MovingAsks (now order) to (now words) slot ⌝ }
+    ensures { λ r. ⌜ MovingEnd (now (order .entry)) to (now (words .entry)) slot r ⌝ }
+{
+    let mut end = to;
+    loop {
+        let t = order[end - 1];
+        let named = in_words(words, t);
+        if named | (slot == t) {
+            return end;
+        }
+        end -= 1;
+    }
 }
 
 // Of the places from..to of the order, those named are moved to the front of these places, and those that stay are put at the front of
@@ -62,7 +79,7 @@ fn put_first(xs: &mut [u16; 512], at: usize, ys: &[u16; 512], n: usize)
 }
 
 // Puts the places from..to of the order, the tentative slots, into the order of a settlement of that slot with that context; how many
-// are committed then.
+// are committed then. What stands behind the last that moves is left alone.
 pub fn settle_order(
     order: &mut [u16; 512],
     from: usize,
@@ -74,9 +91,10 @@ pub fn settle_order(
     ensures { λ r. ⌜ Settled (now (order .entry)) from to (now (words .entry)) slot (now (order .exit)) r ⌝ }
 {
     let mut staying = [0u16; 512];
-    let own = separate(order, &mut staying, from, to, words, slot);
+    let end = moving_end(order, to, words, slot);
+    let own = separate(order, &mut staying, from, end, words, slot);
     order[own] = slot;
     let committed = own + 1;
-    put_first(order, committed, &staying, to - committed);
+    put_first(order, committed, &staying, end - committed);
     committed
 }
