@@ -3,15 +3,15 @@
 //
 // A case prints its name on a line and then a line for each answer: refusal, mark, panel, event and response, and behind them the bytes
 // of the request to be spread where there is one.
-use driver::answers::ANSWER_SIZE;
-use driver::calls::CALL_SIZE;
-use driver::calls::CALLS_AT;
-use driver::calls::MESSAGE_SIZE;
+use encoding::answers::ANSWER_SIZE;
+use encoding::calls::CALL_SIZE;
+use encoding::calls::CALLS_AT;
+use encoding::calls::MESSAGE_SIZE;
 use libc::STDOUT_FILENO;
 use wire::reader;
 ghost use Prim.Native.Nat.{_+_, _*_, _≤_, _<_};
 ghost use lib.ListN.{length};
-ghost use Rattle.driver.specs.Encoding.{answerSize, responseWidth};
+ghost use Rattle.encoding.specs.Encoding.{answerSize, responseWidth};
 
 // A run ends after so many cases, where standard input does not end it sooner.
 const MOST_CASES: usize = 10000;

@@ -8,6 +8,7 @@ ghost use Prim.Native.Nat.{_+_, _≤_};
 ghost use Rattle.counters.specs.Counted.{mostSteps, undosCounted, executionsCounted};
 
 // Undos done and executions (carry-outs) done.
+#[repr(C)]
 pub struct Counters {
     pub undos: u32,
     pub executions: u32,

@@ -8,6 +8,7 @@ use request::Operation;
 use request::Request;
 
 // What a caller asks for when a request is made.
+#[repr(C)]
 pub struct Invocation {
     pub operation: Operation,
     pub strong: bool,
@@ -15,6 +16,7 @@ pub struct Invocation {
 }
 
 // What a call answers: every field for every call, zeros where it has nothing to say.
+#[repr(C)]
 pub struct Answer {
     pub refusal: u8,
     pub request: Request,

@@ -1,5 +1,5 @@
 -- A run, from what fresh and the loop over the calls give.
-use Prim.Native.Nat.{ℕ, _/_, _≤_, _<_}
+use Prim.Native.Nat.{ℕ, _/_, _≤_, _<_, _*_}
 use mathlib.Core.Path.{_≡_, refl, sym, ap, _∙_}
 use mathlib.Core.Bool.{true, false}
 use mathlib.Core.List.{List}
@@ -12,10 +12,12 @@ use Rattle.counters.specs.declared.Counters.{Counters}
 use Rattle.replica.specs.declared.Core.{Core}
 use Rattle.replica.specs.State.{State, Opened}
 use Rattle.replica.specs.Model.{model, Fresh}
-use Rattle.driver.specs.Encoding.{panelsOf, ownOf, callsAt, callCount, entriesOf, answerSize, answersBytes}
-use Rattle.driver.specs.Encoding.{runEntries, freshOf, tight, entriesRun, RanAll, Ran}
-use Rattle.driver.proofs.Expanded.{run-expanded}
-use Rattle.driver.proofs.SizeLaws.{length-calls}
+use Rattle.encoding.specs.Encoding.{panelsOf, ownOf, callsAt, callCount, entriesOf, answerSize, answersBytes}
+use Rattle.encoding.specs.Encoding.{runEntries, freshOf, tight, entriesRun, RanAll}
+use Rattle.driver.specs.declared.Ran.{Ran as RanOf}
+use Rattle.driver.specs.Running.{Ran}
+use Rattle.encoding.proofs.Expanded.{run-expanded}
+use Rattle.encoding.proofs.SizeLaws.{length-calls, run-inside}
 
 module _ (s out : List ℕ) (panels own : ℕ) (o : Opened) (is-panels : panels ≡ panelsOf s) (is-own : own ≡ ownOf s)
     (opened : Fresh panels own o) (count : ℕ) (counted : count ≡ callCount s)
@@ -58,3 +60,7 @@ module _ (s out : List ℕ) (panels own : ℕ) (o : Opened) (is-panels : panels 
           answers = rw e (all .answers ∙ ap (λ (r : Replica). sets out 0 (answersBytes r (entriesOf s))) (opened-of .state));
           invariant = all .invariant;
         }
+
+-- the answers of a run lie in the lent bytes
+pub ran-inside : {s out out′ : List ℕ} {r : RanOf} {q : State} → Ran s out out′ r q → answerSize * r .ran ≤ length out
+ran-inside {s} {out} h = omega (arith, h .ran, run-inside s out)

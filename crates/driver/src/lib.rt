@@ -1,21 +1,20 @@
 // Runs an encoded list of calls from fresh: bytes in, answers out in lent bytes. The encoding is in `docs/CALLS.md`.
 //
-// The panel's arrays are lent and hold its memory after the calls. `calls` reads and carries out one call, `counting` does the steps and
-// counts them, `answers` puts one answer; `Encoding` of `specs/` has the encoding and what a run does, `Parts` what is asked and promised
-// over parts of a panel.
-pub mod answers;
-pub mod calls;
-pub mod counting;
+// The panel's arrays are lent and hold its memory after the calls. `entry` reads and carries out one call; `Running` of `specs/` says what
+// a run does, `Parts` what is promised over parts of a panel.
+mod entry;
 
 use counters::Counters;
-use creek::Answer;
+use encoding::answers;
+use encoding::calls;
 use numbers::PanelNo;
 use replica::Core;
 ghost use mathlib.Core.Path.{_≡_};
 ghost use Rattle.text.specs.Placed.{Room};
 ghost use Rattle.replica.specs.State.{packed};
 ghost use Rattle.replica.specs.Model.{Inv, model};
-ghost use Rattle.driver.specs.Encoding.{callCount, entriesOf, answersBytes, Ran as RanBytes, RanAll};
+ghost use Rattle.encoding.specs.Encoding.{callCount, entriesOf, answersBytes, RanAll};
+ghost use Rattle.driver.specs.Running.{Ran as RanBytes};
 
 // What a run returns: whether the lent bytes have room for the answers, the refusal of fresh, how many calls were run, and the core and
 // the counters after them.
@@ -25,13 +24,6 @@ pub struct Ran {
     pub ran: usize,
     pub core: Core,
     pub counters: Counters,
-}
-
-// What one entry of the list leads to: the core and the counters after it, and its answer.
-pub struct EntryResult {
-    pub core: Core,
-    pub counters: Counters,
-    pub answer: Answer,
 }
 
 // What all entries lead to: the core and the counters after them.
@@ -160,7 +152,7 @@ fn run_all(
     let mut behind = 0;
     let mut i = 0;
     while i < count {
-        let called = calls::call(
+        let called = entry::call(
             panel,
             counted,
             held,

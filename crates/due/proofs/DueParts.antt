@@ -132,10 +132,7 @@ module _ (core : Core) (awaiting operations order stack registers saved response
         → AllExecuted core undos awaiting operations order stack registers saved responses awaiting′ stack′ registers′ saved′ responses′
         (record {
           core = withBoard core (core .ordered) (core .ordered);
-          undos = undos;
-          executions = executions;
-          count = count;
-          replies = replies;
+          due = record { undos = undos; executions = executions; count = count; replies = replies };
         })
     execute-end all undos executions is =
         let end : at ≡ core .ordered = omega (arith, h .high) in

@@ -122,11 +122,11 @@ pub record AllUndone (core : Core) (operations stack registers saved registers�
 -- every due step done on a panel with these parts, with its steps counted
 abbrev pub ranParts : State → Counters → DueResult → (awaiting operations order stack registers saved responses : List ℕ) → Ran
 ranParts p counters r awaiting operations order stack registers saved responses = record {
-  undos = r .undos;
-  executions = r .executions;
-  count = r .count;
-  replies = r .replies;
-  state = executeParts p (executionsCounted counters (r .executions)) (r .core) awaiting operations order stack registers saved responses;
+  undos = r .due .undos;
+  executions = r .due .executions;
+  count = r .due .count;
+  replies = r .due .replies;
+  state = executeParts p (executionsCounted counters (r .due .executions)) (r .core) awaiting operations order stack registers saved responses;
 }
 
 pub record AllExecuted (core : Core) (undos : ℕ) (awaiting operations order stack registers saved responses : List ℕ)
@@ -139,4 +139,4 @@ pub record DueKept (core : Core) (awaiting operations order stack registers save
     (awaiting′ stack′ registers′ saved′ responses′ : List ℕ) (r : DueResult) : Type 0 where
   pub kept : (p : State) → Inv (executeParts p (p .counters) core awaiting operations order stack registers saved responses)
       → RunDue (executeParts p (p .counters) core awaiting operations order stack registers saved responses)
-      (ranParts p (undosCounted (p .counters) (r .undos)) r awaiting′ operations order stack′ registers′ saved′ responses′)
+      (ranParts p (undosCounted (p .counters) (r .due .undos)) r awaiting′ operations order stack′ registers′ saved′ responses′)

@@ -10,13 +10,19 @@ ghost use mathlib.Core.Path.{_≡_};
 ghost use Rattle.steps.specs.Steps.{UndoAsks, ExecuteAsks};
 ghost use Rattle.due.specs.Due.{noReply, AllUndone, AllExecuted, DueKept};
 
-// What run_due returns: the core after it, the steps done, and the replies that fell due, of which there are `count`.
-pub struct DueResult {
-    pub core: Core,
+// What all due steps were: how many undos and executions, and the replies that fell due, of which there are `count`.
+#[repr(C)]
+pub struct DueSteps {
     pub undos: u32,
     pub executions: u32,
     pub count: usize,
     pub replies: [DueReply; 64],
+}
+
+// What run_due returns: the core after it, and the steps done.
+pub struct DueResult {
+    pub core: Core,
+    pub due: DueSteps,
 }
 
 // Every due step until the panel is idle, with the replies that fall due on the way.
@@ -124,13 +130,13 @@ fn execute_all<'a>(
     let mut after = core;
     after.executed = ordered;
     after.stacked = ordered;
-    DueResult {
-        core: after,
+    let due = DueSteps {
         undos,
         executions,
         count,
         replies,
-    }
+    };
+    DueResult { core: after, due }
 }
 
 // The reply of zeros, which stands behind those that fell due.

@@ -6,15 +6,19 @@ ghost use mathlib.Core.Path.{_≡_};
 ghost use Rattle.numbers.specs.Numbers.{sameNumber, badNumber, slotOf, numberOf};
 
 // A panel of the shop, counted from 0.
+#[repr(C)]
 pub struct PanelNo(pub u8);
 
 // An event of a panel, counted from 1: it names a request.
+#[repr(C)]
 pub struct EventNo(pub u8);
 
 // A clock reading: it places a request.
+#[repr(C)]
 pub struct Clock(pub u32);
 
 // A request's number.
+#[repr(C)]
 pub struct Number {
     pub panel: PanelNo,
     pub event: EventNo,

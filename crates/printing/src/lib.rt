@@ -3,7 +3,7 @@ use libc::STDOUT_FILENO;
 use sheet::MOST_PRINTED;
 ghost use mathlib.Core.Path.{_≡_};
 ghost use lib.ListN.{length, take};
-ghost use Rattle.sheet.specs.Sheet.{mostInput, mostPrinted, printout};
+ghost use Rattle.printed.specs.Printout.{mostInput, mostPrinted, printout};
 
 // Room for the longest printout.
 fn page() -> [u8; MOST_PRINTED]

@@ -31,6 +31,7 @@ ghost use Rattle.replica.specs.State.{firstCore};
 ghost use Rattle.replica.specs.Fresh.{FreshKept};
 
 // The small part of a panel's memory, which the calls take and return by value.
+#[repr(C)]
 pub struct Core {
     pub panels: u8,
     pub own: PanelNo,
@@ -57,12 +58,14 @@ pub struct CallResult {
 }
 
 // A register's value, or refusal 3.
+#[repr(C)]
 pub struct RegisterValue {
     pub refusal: u8,
     pub value: u32,
 }
 
 // The request at a place of the standing order, or refusal 9.
+#[repr(C)]
 pub struct PlacedRequest {
     pub refusal: u8,
     pub request: Request,

@@ -14,6 +14,7 @@ ghost use mathlib.Core.Path.{_≡_};
 ghost use Rattle.request.specs.Request.{sameRequest, badContext};
 
 // An operation on register r; under a move, from register r to register q; under a claim of registers together, on r to q.
+#[repr(C)]
 pub struct Operation {
     pub code: u8,
     pub r: u8,
@@ -22,6 +23,7 @@ pub struct Operation {
 }
 
 // A request; one that is not strong is weak.
+#[repr(C)]
 pub struct Request {
     pub number: Number,
     pub clock: Clock,

@@ -10,6 +10,7 @@ ghost use Rattle.sets.specs.Sets.{sameContext, emptySet, isEmpty, namesF
 ghost use Rattle.sets.specs.Sets.{difference as differenceOf, subset, lowest as lowestOf, lowestLacking};
 
 // A set of numbers: word p is panel p's, and bit e - 1 of it is event e's.
+#[repr(C)]
 pub struct Context {
     pub words: [u64; 8],
 }

@@ -1,5 +1,4 @@
--- Laws of hearing and putting, in this order: what an answer of the reader stands for; the call that a message makes; a message that is
--- taken in; lines; the loop over all that is found; the whole printout.
+-- Laws of hearing and putting, in this order: a message that is taken in; lines; the loop over all that is found; the whole printout.
 use Prim.Native.Nat.{ℕ, suc, _+_, _*_, _-_, _≤_, _<_, _^_}
 use mathlib.Core.Path.{_≡_, refl, sym, ap, _∙_, subst}
 use mathlib.Core.Bool.{Bool, true, false}
@@ -22,13 +21,9 @@ use Rattle.creek.specs.Execution.{registers, board, operations}
 use Rattle.creek.specs.Book.{Call}
 use Rattle.creek.specs.Calls.{Replica, badShop, freshRefusal, fresh, step, answer}
 use Rattle.creek.specs.Showing.{undosShown, executionsShown}
-use Rattle.replica.specs.declared.Core.{Core}
-use Rattle.replica.specs.declared.CallResult.{CallResult}
 use Rattle.replica.specs.State.{State, Called}
 use Rattle.due.specs.Due.{Ran}
 use Rattle.replica.specs.Model.{model, Inv, Kept}
-use Rattle.entering.specs.Entering.{DeliverKept}
-use Rattle.settling.specs.Settling.{CommitKept}
 use Rattle.due.specs.Due.{RunDue}
 use Rattle.replica.specs.Shown.{registersShown, committedShown}
 use Rattle.wire.specs.declared.Message.{Message}
@@ -40,67 +35,15 @@ use Rattle.wire.specs.declared.Kind.the-variants.{Weak, Strong, Settlement}
 use Rattle.wire.specs.Layout.{kindNumber}
 use Rattle.wire.specs.Message.{BusMessage, kindOf, said}
 use Rattle.wire.specs.Reader.{Outcome, message, end, refused, answered, readAt, refusalOf}
-use Rattle.wire.proofs.HeldLaws.{said-held, said-settlement, said-request}
 use Rattle.sheet.specs.declared.Heard.{Heard}
 use Rattle.sheet.specs.declared.Ended.{Ended}
-use Rattle.sheet.specs.Sheet.{callOf, idled, after, afterAll, refusalIn, numberIn, lineOfMessage, lineFor, foundFrom, messageLines}
-use Rattle.sheet.specs.Sheet.{shopBytes, leastMessage, mostMessages, mostInput, closing, printoutOf, printout}
-use Rattle.sheet.specs.Putting.{takenOf, callParts, CallKept, Stands, HeardOf, TakenIn, HeardAs, LinePut, AllPut}
-use Rattle.sheet.proofs.FoundLaws.{bytesOf, Takes, whole, all, takes, taken-within, one-found, none-found}
-
--- ---- what an answer stands for
-
-abbrev which : Answer → ℕ
-which aMessage = 0
-which End = 1
-which (Refused w) = 2
-
-module _ (r : Reading) (P : Outcome → Type 0) where
-  pub message-only : r .answer ≡ aMessage → ((n : ℕ) → P (message (said (r .message)) n)) → (o : Outcome) → r ≡ answered o → P o
-  unfolding answered
-  message-only e p (message m n) f =
-      let is : said (r .message) ≡ m = ap (λ (x : Reading). said (x .message)) f ∙ said-held m in
-      subst (λ (z : BusMessage). P (message z n)) is (p n)
-  message-only e p end f = absurd (omega (arith, ap which (sym e ∙ ap (λ (x : Reading). x .answer) f)))
-  message-only e p (refused w) f = absurd (omega (arith, ap which (sym e ∙ ap (λ (x : Reading). x .answer) f)))
-
-  pub end-only : r .answer ≡ End → P end → (o : Outcome) → r ≡ answered o → P o
-  unfolding answered
-  end-only e p (message m n) f = absurd (omega (arith, ap which (sym e ∙ ap (λ (x : Reading). x .answer) f)))
-  end-only e p end f = p
-  end-only e p (refused w) f = absurd (omega (arith, ap which (sym e ∙ ap (λ (x : Reading). x .answer) f)))
-
-  pub refused-only : (w : ℕ) → r .answer ≡ Refused w → P (refused w) → (o : Outcome) → r ≡ answered o → P o
-  unfolding answered
-  refused-only w e p (message m n) f = absurd (omega (arith, ap which (sym e ∙ ap (λ (x : Reading). x .answer) f)))
-  refused-only w e p end f = absurd (omega (arith, ap which (sym e ∙ ap (λ (x : Reading). x .answer) f)))
-  refused-only w e p (refused v) f =
-      subst (λ (z : ℕ). P (refused z)) (ap refusalOf (sym e ∙ ap (λ (x : Reading). x .answer) f)) p
-
--- ---- the call that a message makes
-
-module _ {core : Core} {held known awaiting clocks operations contexts order stack responses : List ℕ} (m : Message) {r : CallResult} where
-  pub call-settled : m .settles ≡ true → {known′ awaiting′ order′ : List ℕ}
-      → CommitKept core held known awaiting operations contexts order stack responses (m .request .number) known′ awaiting′ order′ r
-      → CallKept core held known awaiting clocks operations contexts order stack responses (said m)
-      held known′ awaiting′ clocks operations contexts order′ r
-  unfolding callOf
-  call-settled e k = record {
-    kept = λ p inv.
-        rw (said-settlement m e)
-        (k .kept (callParts p core held known awaiting clocks operations contexts order stack responses) inv);
-  }
-
-  pub call-heard : m .settles ≡ false → {held′ known′ clocks′ operations′ contexts′ order′ : List ℕ}
-      → DeliverKept core held known clocks operations contexts order stack (m .request) held′ known′ clocks′ operations′ contexts′ order′ r
-      → CallKept core held known awaiting clocks operations contexts order stack responses (said m)
-      held′ known′ awaiting clocks′ operations′ contexts′ order′ r
-  unfolding callOf
-  call-heard e k = record {
-    kept = λ p inv.
-        rw (said-request m e)
-        (k .kept (callParts p core held known awaiting clocks operations contexts order stack responses) inv);
-  }
+use Rattle.wire.proofs.HeldLaws.{said-settlement, said-request}
+use Rattle.intake.specs.Intake.{callOf}
+use Rattle.intake.proofs.ReadingLaws.{message-only, end-only, refused-only}
+use Rattle.printed.specs.Printout.{takenOf, idled, after, afterAll, refusalIn, numberIn, lineOfMessage, lineFor, foundFrom, messageLines}
+use Rattle.printed.specs.Printout.{shopBytes, leastMessage, mostMessages, mostInput, closing, printoutOf, printout}
+use Rattle.sheet.specs.Putting.{Stands, HeardOf, TakenIn, HeardAs, LinePut, AllPut}
+use Rattle.printed.proofs.FoundLaws.{bytesOf, Takes, whole, all, takes, taken-within, one-found, none-found}
 
 -- ---- a message is taken in
 
@@ -143,7 +86,7 @@ module _ (p : State) (r : Reading) (inv : Inv p) where
 
 pub heard-message : (p : State) (r : Reading) (q : State) (h : Heard) → r .answer ≡ aMessage → TakenIn p (said (r .message)) q h
     → HeardAs p r q h
-heard-message p r q h f t = record { heard = message-only r (λ o. HeardOf (model p) o q h) f (t .heard) }
+heard-message p r q h f t = record { heard = message-only r (λ o. HeardOf (model p) o q h) f (t .heard (r .taken)) }
 
 -- ---- lines
 
@@ -173,7 +116,7 @@ module _ (place : ℕ) (r : Reading) (word undone : ℕ) (out : List ℕ) (at : 
       → LinePut place r word undone out at out′ behind
   unfolding lineFor
   put-message-line out′ behind f w few = record {
-    written = message-only r (λ o. Written out at (lineFor place o word undone) out′ behind) f (λ n. w);
+    written = message-only r (λ o. Written out at (lineFor place o word undone) out′ behind) f w;
     few = few;
   }
 

@@ -1,3 +1,2 @@
 -- The printout as a definition of the input's bytes, and what the functions that put it promise.
-pub mod Sheet
 pub mod Putting

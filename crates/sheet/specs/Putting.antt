@@ -9,27 +9,15 @@ use Rattle.report.specs.Sizes.{mostMessageBytes, mostTotalsBytes, mostRegisters
 use Rattle.counters.specs.declared.Counters.{Counters}
 use Rattle.creek.specs.Calls.{Replica, badShop, fresh}
 use Rattle.replica.specs.declared.Core.{Core}
-use Rattle.replica.specs.declared.CallResult.{CallResult}
 use Rattle.replica.specs.State.{State, packed}
-use Rattle.replica.specs.Model.{model, Inv, Kept}
+use Rattle.replica.specs.Model.{model, Inv}
 use Rattle.wire.specs.declared.Reading.{Reading}
-use Rattle.wire.specs.declared.Answer.{Answer}
-use Rattle.wire.specs.declared.Answer.the-variants.{Message as aMessage, End, Refused}
 use Rattle.wire.specs.Message.{BusMessage}
 use Rattle.wire.specs.Reader.{Outcome, message, answered}
 use Rattle.sheet.specs.declared.Heard.{Heard}
 use Rattle.sheet.specs.declared.Ended.{Ended}
-use Rattle.sheet.specs.Sheet.{callOf, after, afterAll, refusalIn, undoneIn, lineOfMessage, lineFor, foundFrom, shopBytes}
-use Rattle.sheet.specs.Sheet.{messageLines, closing, mostMessages, mostInput, mostPrinted, printout}
-
--- the bytes that an answer passes over where so many are left
-abbrev pub takenBy : Answer → ℕ → ℕ → ℕ
-takenBy aMessage taken left = taken
-takenBy End taken left = left
-takenBy (Refused w) taken left = left
-
-abbrev pub takenOf : Reading → ℕ → ℕ
-takenOf r left = takenBy (r .answer) (r .taken) left
+use Rattle.printed.specs.Printout.{after, afterAll, refusalIn, undoneIn, lineOfMessage, lineFor, foundFrom, shopBytes}
+use Rattle.printed.specs.Printout.{messageLines, closing, mostMessages, mostInput, mostPrinted, printout}
 
 -- q stands for the replica r
 pub record Stands (q : State) (r : Replica) : Type 0 where
@@ -37,25 +25,6 @@ pub record Stands (q : State) (r : Replica) : Type 0 where
   pub invariant : Inv q
 
 -- ---- hearing
-
--- p with that core and the parts that a call is lent
-abbrev pub callParts : State → Core → (held known awaiting clocks operations contexts order stack responses : List ℕ) → State
-callParts p core held known awaiting clocks operations contexts order stack responses =
-    packed core (p .counters) held known awaiting clocks operations contexts order stack (p .registers) (p .saved) responses
-
--- they are the parts of a panel that came from fresh and the calls
-pub record CallAsks (core : Core) (held known awaiting clocks operations contexts order stack responses : List ℕ) : Type 0 where
-  pub panel : State
-  pub invariant : Inv (callParts panel core held known awaiting clocks operations contexts order stack responses)
-
--- of every such panel: the call that the message m makes was answered and carried out as `creek` says
-pub record CallKept (core : Core) (held known awaiting clocks operations contexts order stack responses : List ℕ) (m : BusMessage)
-    (held′ known′ awaiting′ clocks′ operations′ contexts′ order′ : List ℕ) (r : CallResult) : Type 0 where
-  pub kept : (p : State) → Inv (callParts p core held known awaiting clocks operations contexts order stack responses)
-      → Kept (callParts p core held known awaiting clocks operations contexts order stack responses) (callOf m) (record {
-        answer = r .answer;
-        state = callParts p (r .core) held′ known′ awaiting′ clocks′ operations′ contexts′ order′ stack responses;
-      })
 
 -- what was found, o, was heard where r stood, and q is the panel then
 pub record HeardOf (r : Replica) (o : Outcome) (q : State) (h : Heard) : Type 0 where

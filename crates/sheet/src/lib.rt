@@ -5,7 +5,6 @@
 // are handed on by value.
 use counters::Counters;
 use numbers::PanelNo;
-use replica::CallResult;
 use replica::Core;
 use request::refusal;
 use wire::Answer;
@@ -18,8 +17,8 @@ ghost use Rattle.report.specs.Sizes.{mostMessageBytes, mostTotalsBytes, mostReg
 ghost use Rattle.replica.specs.State.{packed};
 ghost use Rattle.replica.specs.Model.{model, Inv};
 ghost use Rattle.wire.specs.Message.{said};
-ghost use Rattle.sheet.specs.Sheet.{shopBytes, mostMessages, mostInput, mostPrinted};
-ghost use Rattle.sheet.specs.Putting.{takenOf, CallAsks, CallKept, TakenIn, HeardAs, MessageLinePut, LinePut, AllPut};
+ghost use Rattle.printed.specs.Printout.{takenOf, shopBytes, mostMessages, mostInput, mostPrinted};
+ghost use Rattle.sheet.specs.Putting.{TakenIn, HeardAs, MessageLinePut, LinePut, AllPut};
 ghost use Rattle.sheet.specs.Putting.{ClosingAsks, ClosingPut, Opens, PrintoutPut, Printed};
 
 // At most so many bytes of the input are read.
@@ -44,55 +43,6 @@ struct Ended {
     core: Core,
     counters: Counters,
     behind: usize,
-}
-
-// A request is heard, a settlement is settled.
-fn call<'a>(
-    core: Core,
-    held: &mut [u64; 8],
-    known: &mut [u64; 8],
-    awaiting: &mut [u64; 8],
-    clocks: &mut [u32; 512],
-    operations: &mut [u64; 512],
-    contexts: &mut [u64; 4096],
-    order: &mut [u16; 512],
-    stack: &'a [u16; 512],
-    responses: &'a [u32; 512],
-    m: Message,
-) -> CallResult
-    requires { ⌜ CallAsks core (now held) (now known) (now awaiting) (now clocks) (now operations) (now contexts) (now order)
-        (now stack) (now responses) ⌝ }
-    ensures { λ r. ⌜ CallKept core (now (held .entry)) (now (known .entry)) (now (awaiting .entry)) (now (clocks .entry))
-        (now (operations .entry)) (now (contexts .entry)) (now (order .entry)) (now (stack .entry)) (now (responses .entry)) (said m)
-        (now (held .exit)) (now (known .exit)) (now (awaiting .exit)) (now (clocks .exit)) (now (operations .exit))
-        (now (contexts .exit)) (now (order .exit)) r ⌝ }
-{
-    let x = m.request;
-    if m.settles {
-        return settling::commit(
-            core,
-            held,
-            known,
-            awaiting,
-            operations,
-            contexts,
-            order,
-            stack,
-            responses,
-            x.number,
-        );
-    }
-    entering::deliver(
-        core,
-        held,
-        known,
-        clocks,
-        operations,
-        contexts,
-        order,
-        stack,
-        x,
-    )
 }
 
 // The bytes that are passed over: those of a message, or all that are left.
@@ -133,7 +83,7 @@ fn take_in(
         (now (operations .exit)) (now (contexts .exit)) (now (order .exit)) (now (stack .exit)) (now (registers .exit))
         (now (saved .exit)) (now (responses .exit))) h ⌝ }
 {
-    let c = call(
+    let c = intake::take(
         core,
         held,
         known,
@@ -158,9 +108,9 @@ fn take_in(
         responses,
     );
     let after = ran.core;
-    let undone = ran.undos;
+    let undone = ran.due.undos;
     let undos = counters::undos_counted(counters, undone);
-    let steps = counters::executions_counted(undos, ran.executions);
+    let steps = counters::executions_counted(undos, ran.due.executions);
     Heard {
         core: after,
         counters: steps,

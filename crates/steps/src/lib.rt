@@ -27,6 +27,7 @@ pub struct StepResult {
 }
 
 // A reply that fell due: its request's number, the response and the mark.
+#[repr(C)]
 pub struct DueReply {
     pub number: Number,
     pub response: u32,

@@ -3,7 +3,6 @@ pub mod MessageLaws
 pub mod HeldLaws
 pub mod ReaderLaws
 pub mod WriterLaws
-pub mod FieldsLaws
 pub mod RoundTrip
 pub mod NeverClockBack
 pub mod Examples

@@ -1,12 +1,10 @@
 // Bus messages, document 01's kinds 1 to 3: a reader of a lent run of bytes and a writer into a lent part.
 //
 // Here are the types. The calls are `reader::read` and `writer::write`; `held` makes messages and tells their kind, `layout` has
-// the numbers and sizes of the kinds, `fields` reads and writes for callers in other languages. The
-// contracts cite `readAt`, `writeAnswer` and `afterWrite` of `specs/`; that messages read back as written and write back as read is in
-// `proofs/RoundTrip.antt`.
+// the numbers and sizes of the kinds. The contracts cite `readAt`, `writeAnswer` and `afterWrite` of `specs/`; that messages read back as
+// written and write back as read is in `proofs/RoundTrip.antt`.
 use request::Request;
 
-pub mod fields;
 pub mod held;
 pub mod layout;
 pub mod reader;
@@ -20,6 +18,7 @@ pub enum Kind {
 }
 
 // A message: the request, or the settlement of its number, for which the other fields stand for nothing.
+#[repr(C)]
 pub struct Message {
     pub settles: bool,
     pub request: Request,
@@ -40,6 +39,7 @@ pub struct Reading {
 }
 
 // The refusal, or 0, and the bytes written.
+#[repr(C)]
 pub struct Written {
     pub refusal: u8,
     pub bytes: usize,

@@ -3,7 +3,7 @@ use Prim.Native.Nat.{_≤_, _-_, _*_}
 use native.Mathlib.Omega.{arith}
 use mathlib.Core.Path.{_≡_}
 use borrow.Author.Needs.{needs}
-use Rattle.driver.specs.Encoding.{answerSize}
+use Rattle.encoding.specs.Encoding.{answerSize}
 use Rattle.callcases.proofs.print_answers.Statement.{statement}
 use Rattle.callcases.proofs.print_answers.Tie as tie
 

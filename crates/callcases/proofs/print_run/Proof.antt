@@ -1,6 +1,6 @@
 -- `print_run` meets its contract: the answers of the calls that were run lie inside the page.
 use native.Mathlib.Omega.{arith}
-use Rattle.driver.proofs.SizeLaws.{ran-inside}
+use Rattle.driver.proofs.RunLaws.{ran-inside}
 use borrow.Author.Needs.{needs}
 use Rattle.callcases.proofs.print_run.Statement.{statement}
 use Rattle.callcases.proofs.print_run.Tie as tie

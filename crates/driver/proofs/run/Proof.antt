@@ -1,6 +1,6 @@
 -- `run` meets its contract.
 use native.Mathlib.Omega.{arith}
-use Rattle.driver.proofs.SizeLaws.{answers-room}
+use Rattle.encoding.proofs.SizeLaws.{answers-room}
 use Rattle.driver.proofs.RunLaws.{ran-nothing, ran-all}
 use borrow.Author.Needs.{needs}
 use Rattle.driver.proofs.run.Statement.{statement}

@@ -3,7 +3,7 @@ use Prim.Native.Nat.{_+_, _-_, _^_, _≤_, _<_}
 use native.Mathlib.Omega.{arith}
 use lib.ListN.{length}
 use Rattle.replica.specs.State.{packed}
-use Rattle.driver.specs.Encoding.{callSize}
+use Rattle.encoding.specs.Encoding.{callSize}
 use Rattle.driver.proofs.Running.{Running, run-start, call-within, run-room, run-step, run-end}
 use Rattle.driver.proofs.run_all.Statement.{statement}
 use Rattle.driver.proofs.run_all.Tie as tie

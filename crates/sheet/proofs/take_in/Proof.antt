@@ -15,41 +15,41 @@ entered a =
     (a .args .operations .now) (a .args .contexts .now) (a .args .order .now) (a .args .stack .now) (a .args .registers .now)
     (a .args .saved .now) (a .args .responses .now)
 
-abbrev start : tie.After-call → tie.Start
+abbrev start : tie.After-take → tie.Start
 start c = c .before .before .before .before .before .before .before .before .before .before
 
-abbrev called : tie.After-run-due → tie.After-call
+abbrev called : tie.After-run-due → tie.After-take
 called c = c .before .before .before .before .before .before .before .before .before
 
-call-requires : tie.Need-call-requires
-call-requires c κs =
+take-requires : tie.Need-take-requires
+take-requires c κs =
     let a = c .before .before .before .before .before .before .before .before .before in
     record { panel = entered a; invariant = a .pre }
 
 run-due-requires : tie.Need-run-due-requires
 run-due-requires c κs =
     let call = c .before .before .before .before .before .before .before .before in
-    let kept = call .call .ensures .kept (entered (start call)) (start call .pre) in
+    let kept = call .take .ensures .kept (entered (start call)) (start call .pre) in
     record { panel = stateAfter kept; invariant = kept .invariant }
 
 undos-counted-requires : tie.Need-undos-counted-requires
 undos-counted-requires c κs =
     let call = called (c .before) in
-    let kept = call .call .ensures .kept (entered (start call)) (start call .pre) in
+    let kept = call .take .ensures .kept (entered (start call)) (start call .pre) in
     let due = c .before .run-due .ensures .kept (stateAfter kept) (kept .invariant) in
     undos-fit _ (due .invariant)
 
 executions-counted-requires : tie.Need-executions-counted-requires
 executions-counted-requires c κs =
     let call = called (c .before .before) in
-    let kept = call .call .ensures .kept (entered (start call)) (start call .pre) in
+    let kept = call .take .ensures .kept (entered (start call)) (start call .pre) in
     let due = c .before .before .run-due .ensures .kept (stateAfter kept) (kept .invariant) in
     omega (arith, executions-fit _ (due .invariant), ap (λ (k : Counters). k .executions) (c .undos-counted .ensures))
 
 returns : tie.Need-returns
 returns c =
     let call = called (c .before .before .before) in
-    let kept = call .call .ensures .kept (entered (start call)) (start call .pre) in
+    let kept = call .take .ensures .kept (entered (start call)) (start call .pre) in
     let due = c .before .before .before .run-due .ensures .kept (stateAfter kept) (kept .invariant) in
     rw (c .executions-counted .ensures, c .before .undos-counted .ensures) (taken-in _ _ _ kept _ due refl _ refl refl)
 
@@ -57,7 +57,7 @@ pub take-in-spec : {M : Type 1} → statement M
 take-in-spec =
     tie.close
     (tie.spec
-    call-requires
+    take-requires
     run-due-requires
     undos-counted-requires
     executions-counted-requires

@@ -1,0 +1,2 @@
+-- The laws behind counted steps.
+pub mod CountingLaws

@@ -1,0 +1,53 @@
+-- `counting::all_due` meets its contract.
+use native.Mathlib.Omega.{arith}
+use Rattle.steps.specs.Steps.{executeParts}
+use Rattle.counting.proofs.CountingLaws.{due-undos-fit, due-executions-fit, due-few, due-counts}
+use borrow.Author.Needs.{needs}
+use Rattle.counting.proofs.all_due.Statement.{statement}
+use Rattle.counting.proofs.all_due.Tie as tie
+
+abbrev start : tie.After-run-due → tie.Start
+start c = c .before .before .before .before .before .before
+
+run-due-requires : tie.Need-run-due-requires
+run-due-requires c κs =
+    let a = c .before .before .before .before .before in
+    record {
+      panel =
+          executeParts (a .pre .panel) (a .args .counters) (a .args .core) (a .args .awaiting .now) (a .args .operations .now)
+          (a .args .order .now) (a .args .stack .now) (a .args .registers .now) (a .args .saved .now) (a .args .responses .now);
+      invariant = a .pre .invariant;
+    }
+
+undos-counted-requires : tie.Need-undos-counted-requires
+undos-counted-requires c κs = due-undos-fit (c .run-due .ensures) (start c .pre)
+
+executions-counted-requires : tie.Need-executions-counted-requires
+executions-counted-requires c κs =
+    due-executions-fit (c .before .run-due .ensures) (start (c .before) .pre) _ (c .undos-counted .ensures)
+
+add-steps : tie.Need-add-steps
+add-steps c =
+    let ran = c .before .before .before in
+    omega (arith, due-few (ran .run-due .ensures) (start ran .pre))
+
+nothing-requires : tie.Need-nothing-requires
+nothing-requires c κs = search needs
+
+returns : tie.Need-returns
+returns c =
+    let nothing = c .before .before in
+    let counted = nothing .before .before in
+    due-counts (counted .before .before .run-due .ensures) _ _ (counted .before .undos-counted .ensures)
+    (counted .executions-counted .ensures) _ (nothing .nothing .ensures)
+
+pub all-due-spec : {M : Type 1} → statement M
+all-due-spec =
+    tie.close
+    (tie.spec
+    run-due-requires
+    undos-counted-requires
+    executions-counted-requires
+    add-steps
+    nothing-requires
+    returns)

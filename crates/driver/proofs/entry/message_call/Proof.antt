@@ -1,0 +1,50 @@
+-- `entry::message_call` meets its contract: each arm is a case of the tag and of the message.
+use Rattle.replica.specs.State.{State}
+use Rattle.intake.specs.Intake.{takeParts}
+use Rattle.encoding.proofs.CallLaws.{kept-invoke, kept-taken}
+use borrow.Author.Needs.{needs}
+use Rattle.driver.proofs.entry.message_call.Statement.{statement}
+use Rattle.driver.proofs.entry.message_call.Tie as tie
+
+-- a panel with the parts lent
+abbrev lent : tie.Start → State → State
+lent a p =
+    takeParts p (a .args .core) (a .args .held .now) (a .args .known .now) (a .args .awaiting .now) (a .args .clocks .now)
+    (a .args .operations .now) (a .args .contexts .now) (a .args .order .now) (a .args .stack .now) (a .args .responses .now)
+
+invocation-of-requires : tie.Need-invocation-of-requires
+invocation-of-requires c κs = search needs
+
+invoke-requires : tie.Need-invoke-requires
+invoke-requires c κs =
+    let a = c .before .before .before .before .before .before .before .before .before .before in
+    record { panel = lent a (a .pre .panel); invariant = a .pre .invariant }
+
+returns : tie.Need-returns
+returns c =
+    let asked = c .before .before .before .before .before .before .before .before in
+    let a = asked .before .before .before in
+    record {
+      kept = λ p inv. kept-invoke (lent a p) _ _ _ (asked .before .if1 .taken) _ (asked .invocation-of .ensures) (c .invoke .ensures .kept (lent a p) inv);
+    }
+
+take-requires : tie.Need-take-requires
+take-requires c κs =
+    let a = c .before .before .before .before .before .before .before .before .before in
+    record { panel = lent a (a .pre .panel); invariant = a .pre .invariant }
+
+returns-2 : tie.Need-returns-2
+returns-2 c =
+    let other = c .before .before .before .before .before .before .before .before in
+    let a = other .before .before in
+    record { kept = λ p inv. kept-taken (lent a p) _ _ _ (other .if1 .left) (c .take .ensures .kept (lent a p) inv) }
+
+pub message-call-spec : {M : Type 1} → statement M
+message-call-spec =
+    tie.close
+    (tie.spec
+    invocation-of-requires
+    invoke-requires
+    returns
+    take-requires
+    returns-2)

@@ -1,0 +1,43 @@
+-- The message of an answer: what the writer leaves in a run of zeros.
+use Prim.Native.Nat.{ℕ, _≤_}
+use mathlib.Core.Path.{_≡_, refl, sym, _∙_}
+use mathlib.Core.Bool.{Bool, true, false}
+use mathlib.Core.List.{List}
+use native.Mathlib.Omega.{arith}
+use lib.ListN.{length, length-replicate}
+use Rattle.request.specs.declared.Request.{Request}
+use Rattle.wire.specs.declared.Kind.{Kind}
+use Rattle.wire.specs.declared.Kind.the-variants.{Weak, Strong, Settlement}
+use Rattle.wire.specs.declared.Message.{Message}
+use Rattle.wire.specs.declared.Written.{Written}
+use Rattle.wire.specs.Layout.{sizeOf, layout, size}
+use Rattle.wire.specs.Message.{request, kindOf, weakWithContext, Fits, held, said}
+use Rattle.wire.specs.Writer.{afterWrite, Wrote}
+use Rattle.wire.proofs.WriterLaws.{context-refused, written, bytes-put}
+use Rattle.wire.proofs.HeldLaws.{said-held}
+use Rattle.encoding.specs.Encoding.{messageSize, noMessageBytes, messageBytes}
+
+size-most : (k : Kind) → sizeOf k ≤ messageSize
+unfolding sizeOf layout size
+size-most Weak = omega arith
+size-most Strong = omega arith
+size-most Settlement = omega arith
+
+after-zeros : (x : Request) → Fits (request x) → afterWrite (request x) noMessageBytes ≡ messageBytes x
+unfolding messageBytes
+after-zeros x fits = go (weakWithContext (request x)) refl
+  where
+    room : sizeOf (kindOf (request x)) ≤ length noMessageBytes
+    room = omega (arith, size-most (kindOf (request x)), length-replicate {A = ℕ} messageSize 0)
+
+    go : (b : Bool) → weakWithContext (request x) ≡ b → afterWrite (request x) noMessageBytes ≡ messageBytes x
+    go true e = context-refused (request x) noMessageBytes e .1 ∙ rw e refl
+    go false e = written (request x) noMessageBytes e room .1 ∙ rw e (sym (bytes-put (request x) noMessageBytes fits room))
+
+-- the writer, given the message of x and a run of zeros, leaves the message's bytes
+pub message-written : (x : Request) (m : Message) (out : List ℕ) (r : Written) → m ≡ held (request x) → Wrote m noMessageBytes out r
+    → out ≡ messageBytes x
+message-written x m out r e w =
+    let is : said m ≡ request x = rw e (said-held (request x)) in
+    let fits : Fits (request x) = rw is at (w .fits) in
+    rw is at (w .after) ∙ after-zeros x fits

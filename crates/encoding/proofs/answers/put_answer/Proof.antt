@@ -1,0 +1,60 @@
+-- `answers::put_answer` meets its contract: the head, and the message behind it.
+use Rattle.text.proofs.PlacedLaws.{then, room-first, room-next}
+use Rattle.wire.specs.Integers.{integerBytes}
+use Rattle.encoding.specs.Encoding.{answerBytes, headBytes, messageBytes}
+use borrow.Author.Needs.{needs}
+use Rattle.encoding.proofs.answers.put_answer.Statement.{statement}
+use Rattle.encoding.proofs.answers.put_answer.Tie as tie
+
+cast-lowest : tie.Need-cast-lowest
+cast-lowest c = search needs
+
+cast-low : tie.Need-cast-low
+cast-low c = search needs
+
+cast-high : tie.Need-cast-high
+cast-high c = search needs
+
+cast-highest : tie.Need-cast-highest
+cast-highest c = search needs
+
+slice-aggregate-put-word : tie.Need-slice-aggregate-put-word
+slice-aggregate-put-word c = search needs
+
+put-word-requires : tie.Need-put-word-requires
+unfolding answerBytes headBytes integerBytes
+put-word-requires c κs =
+    let start = c .before .before .before .before in
+    room-first (headBytes (start .args .a)) (messageBytes (start .args .a .request)) (start .pre)
+
+put-message-requires : tie.Need-put-message-requires
+unfolding answerBytes headBytes integerBytes
+put-message-requires c κs =
+    let head = c .before .before .before in
+    let start = head .before .before .before .before .before in
+    room-next {s = headBytes (start .args .a)} (messageBytes (start .args .a .request)) (head .put-word .ensures) (start .pre)
+
+same-length : tie.Need-same-length
+same-length c = search needs
+
+returns : tie.Need-returns
+unfolding answerBytes headBytes integerBytes
+returns c =
+    let message = c .before .before in
+    let head = message .before .before .before .before in
+    let a = head .before .before .before .before .before .args .a in
+    then {s = headBytes a} {t = messageBytes (a .request)} (head .put-word .ensures) (message .put-message .ensures)
+
+pub put-answer-spec : {M : Type 1} → statement M
+put-answer-spec =
+    tie.close
+    (tie.spec
+    cast-lowest
+    cast-low
+    cast-high
+    cast-highest
+    slice-aggregate-put-word
+    put-word-requires
+    put-message-requires
+    same-length
+    returns)

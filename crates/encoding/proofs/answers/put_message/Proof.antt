@@ -1,0 +1,43 @@
+-- `answers::put_message` meets its contract: it copies what the writer left in a run of zeros.
+use mathlib.Core.Path.{_≡_}
+use Rattle.encoding.specs.Encoding.{messageBytes}
+use Rattle.encoding.proofs.MessageLaws.{message-written}
+use borrow.Author.Needs.{needs}
+use Rattle.encoding.proofs.answers.put_message.Statement.{statement}
+use Rattle.encoding.proofs.answers.put_message.Tie as tie
+
+message-is : (c : tie.After-write) → c .write .last .0 ≡ messageBytes (c .before .before .before .before .args .x)
+message-is c = message-written _ _ _ _ (c .before .before .of-request .ensures) (c .write .ensures)
+
+of-request-requires : tie.Need-of-request-requires
+of-request-requires c κs = search needs
+
+slice-aggregate-write : tie.Need-slice-aggregate-write
+slice-aggregate-write c = search needs
+
+write-requires : tie.Need-write-requires
+write-requires c κs = search needs
+
+slice-aggregate-put-word : tie.Need-slice-aggregate-put-word
+slice-aggregate-put-word c = search needs
+
+put-word-requires : tie.Need-put-word-requires
+put-word-requires c κs = rw (message-is (c .before .before .before)) (c .before .before .before .before .before .before .before .pre)
+
+same-length : tie.Need-same-length
+same-length c = search needs
+
+returns : tie.Need-returns
+returns c = rw (message-is (c .before .before .before .before .before .before)) at (c .before .before .put-word .ensures)
+
+pub put-message-spec : {M : Type 1} → statement M
+put-message-spec =
+    tie.close
+    (tie.spec
+    of-request-requires
+    slice-aggregate-write
+    write-requires
+    slice-aggregate-put-word
+    put-word-requires
+    same-length
+    returns)

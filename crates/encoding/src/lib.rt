@@ -1,0 +1,6 @@
+// Lists of calls and their answers as bytes. The encoding is in `docs/CALLS.md`.
+//
+// `calls` has the places of the calls and reads their parts, `answers` puts one answer; `Encoding` of `specs/` has the encoding and what the
+// entries of a list lead to.
+pub mod answers;
+pub mod calls;

@@ -1,0 +1,210 @@
+// A panel as a component: its whole memory in one struct, which the caller owns, and the calls on it for C and every language that calls C.
+//
+// A call on a panel lends the parts that it uses to the function of `replica`, `entering`, `settling`, `intake`, `steps` or `due` that does
+// the work, and stores the core that comes back: nothing else is copied. `include/mizzencord.h` declares all calls, and `docs/CALLS.md` says
+// what they answer. Here are the calls that change a panel; those that show one are in `showing`, those on bytes alone in `bytes`.
+pub mod bytes;
+pub mod showing;
+
+use counters::Counters;
+use creek::Answer;
+use creek::Invocation;
+use due::DueSteps;
+use intake::Receipt;
+use numbers::Number;
+use numbers::PanelNo;
+use replica::Core;
+use request::Request;
+ghost use Rattle.creek.specs.Book.{undo as undoCall, execute as executeCall, deliver as deliverCall, invoke as invokeCall, commit as commitCall};
+ghost use Rattle.replica.specs.Model.{Fresh, Inv, Kept};
+ghost use Rattle.due.specs.Due.{RunDue};
+ghost use Rattle.wire.specs.Reader.{readAt};
+ghost use Rattle.intake.specs.Intake.{Received};
+ghost use Rattle.mizzencord.specs.Memory.{memory, ran};
+
+// A panel's memory. Only this crate makes and changes one.
+#[repr(C)]
+pub struct Panel {
+    core: Core,
+    counters: Counters,
+    held: [u64; 8],
+    known: [u64; 8],
+    awaiting: [u64; 8],
+    clocks: [u32; 512],
+    operations: [u64; 512],
+    contexts: [u64; 4096],
+    order: [u16; 512],
+    stack: [u16; 512],
+    registers: [u32; 64],
+    saved: [u64; 512],
+    responses: [u32; 512],
+}
+
+// Makes the lent panel one of a shift's first moment; a refused one is a one-panel shop, panel 0. The answer is the refusal.
+#[no_mangle]
+pub extern "C" fn mizzencord_fresh(p: &mut Panel, panels: u8, own: PanelNo) -> u8
+    ensures { λ w. ⌜ Fresh panels (own .0) (record { refusal = w; state = memory (now (p .exit)) }) ⌝ }
+{
+    let opened = replica::fresh(
+        &mut p.held,
+        &mut p.known,
+        &mut p.awaiting,
+        &mut p.clocks,
+        &mut p.operations,
+        &mut p.contexts,
+        &mut p.order,
+        &mut p.stack,
+        &mut p.registers,
+        &mut p.saved,
+        &mut p.responses,
+        panels,
+        own,
+    );
+    p.counters = opened.counters;
+    p.core = opened.core;
+    opened.refusal
+}
+
+// A request is made at this panel.
+#[no_mangle]
+pub extern "C" fn mizzencord_invoke(p: &mut Panel, i: Invocation) -> Answer
+    requires { ⌜ Inv (memory (now p)) ⌝ }
+    ensures { λ a. ⌜ Kept (memory (now (p .entry))) (invokeCall i) (record { answer = a; state = memory (now (p .exit)) }) ⌝ }
+{
+    let done = entering::invoke(
+        p.core,
+        &mut p.held,
+        &mut p.known,
+        &mut p.awaiting,
+        &mut p.clocks,
+        &mut p.operations,
+        &mut p.contexts,
+        &mut p.order,
+        &p.stack,
+        i,
+    );
+    p.core = done.core;
+    done.answer
+}
+
+// A request of another panel is heard.
+#[no_mangle]
+pub extern "C" fn mizzencord_deliver(p: &mut Panel, x: Request) -> Answer
+    requires { ⌜ Inv (memory (now p)) ⌝ }
+    ensures { λ a. ⌜ Kept (memory (now (p .entry))) (deliverCall x) (record { answer = a; state = memory (now (p .exit)) }) ⌝ }
+{
+    let done = entering::deliver(
+        p.core,
+        &mut p.held,
+        &mut p.known,
+        &mut p.clocks,
+        &mut p.operations,
+        &mut p.contexts,
+        &mut p.order,
+        &p.stack,
+        x,
+    );
+    p.core = done.core;
+    done.answer
+}
+
+// Settle the request of number n.
+#[no_mangle]
+pub extern "C" fn mizzencord_commit(p: &mut Panel, n: Number) -> Answer
+    requires { ⌜ Inv (memory (now p)) ⌝ }
+    ensures { λ a. ⌜ Kept (memory (now (p .entry))) (commitCall n) (record { answer = a; state = memory (now (p .exit)) }) ⌝ }
+{
+    let done = settling::commit(
+        p.core,
+        &p.held,
+        &mut p.known,
+        &mut p.awaiting,
+        &p.operations,
+        &p.contexts,
+        &mut p.order,
+        &p.stack,
+        &p.responses,
+        n,
+    );
+    p.core = done.core;
+    done.answer
+}
+
+// The message at a place of the bytes is read, and heard or settled; what cannot be read leaves the panel alone.
+#[no_mangle]
+pub extern "C" fn mizzencord_receive(p: &mut Panel, bytes: &[u8], at: usize) -> Receipt
+    requires { ⌜ Inv (memory (now p)) ⌝ }
+    ensures { λ r. ⌜ Received (memory (now (p .entry))) (readAt (now (bytes .entry)) at) r (memory (now (p .exit))) ⌝ }
+{
+    let done = intake::receive(
+        bytes,
+        at,
+        p.core,
+        &mut p.held,
+        &mut p.known,
+        &mut p.awaiting,
+        &mut p.clocks,
+        &mut p.operations,
+        &mut p.contexts,
+        &mut p.order,
+        &p.stack,
+        &p.responses,
+    );
+    p.core = done.core;
+    done.receipt
+}
+
+// Undo one step.
+#[no_mangle]
+pub extern "C" fn mizzencord_undo(p: &mut Panel) -> Answer
+    requires { ⌜ Inv (memory (now p)) ⌝ }
+    ensures { λ a. ⌜ Kept (memory (now (p .entry))) undoCall (record { answer = a; state = memory (now (p .exit)) }) ⌝ }
+{
+    let done = steps::undo(p.core, &p.operations, &p.stack, &mut p.registers, &p.saved);
+    counters::count_undos(&mut p.counters, done.steps);
+    p.core = done.core;
+    done.answer
+}
+
+// Carry out one step.
+#[no_mangle]
+pub extern "C" fn mizzencord_execute(p: &mut Panel) -> Answer
+    requires { ⌜ Inv (memory (now p)) ⌝ }
+    ensures { λ a. ⌜ Kept (memory (now (p .entry))) executeCall (record { answer = a; state = memory (now (p .exit)) }) ⌝ }
+{
+    let done = steps::execute(
+        p.core,
+        &mut p.awaiting,
+        &p.operations,
+        &p.order,
+        &mut p.stack,
+        &mut p.registers,
+        &mut p.saved,
+        &mut p.responses,
+    );
+    counters::count_executions(&mut p.counters, done.steps);
+    p.core = done.core;
+    done.answer
+}
+
+// Every due step until the panel is idle, with the replies that fall due on the way.
+#[no_mangle]
+pub extern "C" fn mizzencord_run_due(p: &mut Panel) -> DueSteps
+    requires { ⌜ Inv (memory (now p)) ⌝ }
+    ensures { λ r. ⌜ RunDue (memory (now (p .entry))) (ran r (memory (now (p .exit)))) ⌝ }
+{
+    let done = due::run_due(
+        p.core,
+        &mut p.awaiting,
+        &p.operations,
+        &p.order,
+        &mut p.stack,
+        &mut p.registers,
+        &mut p.saved,
+        &mut p.responses,
+    );
+    counters::count_undos(&mut p.counters, done.due.undos);
+    counters::count_executions(&mut p.counters, done.due.executions);
+    p.core = done.core;
+    done.due
+}

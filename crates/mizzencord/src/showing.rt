@@ -1,0 +1,90 @@
+// The calls that show a panel and change nothing.
+//
+// Each hands what it needs of the lent panel to the function of `replica` of the same name, which says what is shown.
+use super::Panel;
+use replica::PlacedRequest;
+use replica::RegisterValue;
+ghost use mathlib.Core.Path.{_≡_};
+ghost use Rattle.creek.specs.Showing.{requestsShown, commitsShown, undosShown, executionsShown, owedShown};
+ghost use Rattle.replica.specs.Model.{model, Inv};
+ghost use Rattle.replica.specs.Shown.{committedShown, RegisterShown, PlaceShown};
+ghost use Rattle.mizzencord.specs.Memory.{memory};
+
+// The value of register k, or refusal 3 with 0.
+#[no_mangle]
+pub extern "C" fn mizzencord_register(p: &Panel, k: u8) -> RegisterValue
+    requires { ⌜ Inv (memory (now p)) ⌝ }
+    ensures { λ r. ⌜ RegisterShown (memory (now (p .entry))) k r ⌝ }
+{
+    replica::showing::register(&p.registers, k)
+}
+
+// The count of accepted requests.
+#[no_mangle]
+pub extern "C" fn mizzencord_requests(p: &Panel) -> usize
+    requires { ⌜ Inv (memory (now p)) ⌝ }
+    ensures { λ n. ⌜ n ≡ requestsShown (model (memory (now (p .entry)))) ⌝ }
+{
+    replica::showing::requests(p.core)
+}
+
+// The length of the settled list.
+#[no_mangle]
+pub extern "C" fn mizzencord_committed(p: &Panel) -> usize
+    requires { ⌜ Inv (memory (now p)) ⌝ }
+    ensures { λ n. ⌜ n ≡ committedShown (model (memory (now (p .entry)))) ⌝ }
+{
+    replica::showing::committed(p.core)
+}
+
+// The count of accepted settlements.
+#[no_mangle]
+pub extern "C" fn mizzencord_commits(p: &Panel) -> u32
+    requires { ⌜ Inv (memory (now p)) ⌝ }
+    ensures { λ n. ⌜ n ≡ commitsShown (model (memory (now (p .entry)))) ⌝ }
+{
+    replica::showing::commits(p.core)
+}
+
+// The steps owed.
+#[no_mangle]
+pub extern "C" fn mizzencord_owed(p: &Panel) -> usize
+    requires { ⌜ Inv (memory (now p)) ⌝ }
+    ensures { λ n. ⌜ n ≡ owedShown (model (memory (now (p .entry)))) ⌝ }
+{
+    replica::showing::owed(p.core)
+}
+
+// The undos done.
+#[no_mangle]
+pub extern "C" fn mizzencord_undos(p: &Panel) -> u32
+    requires { ⌜ Inv (memory (now p)) ⌝ }
+    ensures { λ n. ⌜ n ≡ undosShown (model (memory (now (p .entry)))) ⌝ }
+{
+    replica::showing::undos(p.counters)
+}
+
+// The executions done.
+#[no_mangle]
+pub extern "C" fn mizzencord_executions(p: &Panel) -> u32
+    requires { ⌜ Inv (memory (now p)) ⌝ }
+    ensures { λ n. ⌜ n ≡ executionsShown (model (memory (now (p .entry)))) ⌝ }
+{
+    replica::showing::executions(p.counters)
+}
+
+// The request at a place of the standing order, places counted from 1, or refusal 9 with a request of zeros.
+#[no_mangle]
+pub extern "C" fn mizzencord_at_place(p: &Panel, place: usize) -> PlacedRequest
+    requires { ⌜ Inv (memory (now p)) ⌝ }
+    ensures { λ r. ⌜ PlaceShown (memory (now (p .entry))) place r ⌝ }
+{
+    replica::showing::at_place(
+        p.core,
+        &p.clocks,
+        &p.operations,
+        &p.contexts,
+        &p.order,
+        place,
+    )
+}

@@ -1,0 +1,2 @@
+-- The definitions that the contract of the printout cites.
+pub mod Printout

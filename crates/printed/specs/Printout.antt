@@ -1,0 +1,141 @@
+-- The whole printout as a function of the input's bytes: what is found in them, what it makes of `creek`'s replica, and the lines of both.
+use Prim.Native.Nat.{ℕ, zero, suc, _+_, _*_, _/_, _-_}
+use mathlib.Core.Bool.{cond}
+use mathlib.Core.List.{List, [], _∷_, _++_}
+use lib.ListN.{length, getD}
+use lib.Dec.{ltb}
+use Rattle.numbers.specs.declared.Number.{Number}
+use Rattle.request.specs.Refusal as refusal
+use Rattle.creek.specs.Execution.{registers, owed}
+use Rattle.creek.specs.Calls.{Replica, badShop, fresh, step, answer}
+use Rattle.creek.specs.History.{settleDown}
+use Rattle.creek.specs.Showing.{undosShown, executionsShown}
+use Rattle.wire.specs.declared.Reading.{Reading}
+use Rattle.wire.specs.declared.Answer.{Answer}
+use Rattle.wire.specs.declared.Answer.the-variants.{Message as aMessage, End, Refused}
+use Rattle.wire.specs.Layout.{kindNumber}
+use Rattle.wire.specs.Message.{BusMessage, request, settlement, kindOf}
+use Rattle.intake.specs.Intake.{callOf}
+use Rattle.wire.specs.Reader.{Outcome, message, end, refused, readAt}
+use Rattle.report.specs.Lines.{boardLine, refusedLine, messageLine, unreadLine, totalsLine, registerLines}
+use Rattle.report.specs.Sizes.{mostBoardBytes, mostMessageBytes, mostTotalsBytes, mostRegistersBytes}
+
+-- ---- the input
+
+-- at most so many bytes of the input are read
+abbrev pub mostInput : ℕ
+mostInput = 65536
+
+-- P and the own panel, one byte each, stand in front of the messages
+abbrev pub shopBytes : ℕ
+shopBytes = 2
+
+-- how many of the bytes left are passed over behind the first byte of what is found: the rest of a message, or all of them, since what
+-- cannot be read ends the reading
+abbrev pub passed : Outcome → ℕ → ℕ
+passed (message m n) left = n - 1
+passed end left = left
+passed (refused w) left = left
+
+-- the same of what the reader answered, from its first byte on
+abbrev pub takenBy : Answer → ℕ → ℕ → ℕ
+takenBy aMessage taken left = taken
+takenBy End taken left = left
+takenBy (Refused w) taken left = left
+
+abbrev pub takenOf : Reading → ℕ → ℕ
+takenOf r left = takenBy (r .answer) (r .taken) left
+
+-- what is found in the `left` bytes of s from `at` on, of which the first `skip` are passed over
+unfoldable pub found : List ℕ → ℕ → ℕ → ℕ → List Outcome
+found s at skip zero = []
+found s at zero (suc left) = readAt s at ∷ found s (suc at) (passed (readAt s at) left) left
+found s at (suc skip) (suc left) = found s (suc at) skip left
+
+-- what is found from a place on
+abbrev pub foundFrom : List ℕ → ℕ → List Outcome
+foundFrom s at = found s at 0 (length s - at)
+
+-- ---- the replica
+
+-- due steps are called until the replica is idle
+abbrev pub idled : Replica → Replica
+idled r = settleDown (owed (r .book .execution)) r
+
+-- the replica after what was found; what cannot be read leaves it alone
+unfoldable pub after : Replica → Outcome → Replica
+after r (message m n) = idled (step r (callOf m))
+after r end = r
+after r (refused w) = r
+
+-- the replica after all of it, one after the other
+unfoldable pub afterAll : Replica → List Outcome → Replica
+afterAll r [] = r
+afterAll r (o ∷ os) = afterAll (after r o) os
+
+-- ---- the lines
+
+-- the number that a message names
+unfoldable pub numberIn : BusMessage → Number
+numberIn (request x) = x .number
+numberIn (settlement n) = n
+
+-- a message's line, at its place among the messages, with its refusal and the undos done since the line before
+unfoldable pub lineOfMessage : ℕ → BusMessage → ℕ → ℕ → List ℕ
+lineOfMessage place m word undone =
+    messageLine place (kindNumber (kindOf m)) (numberIn m .panel .0) (numberIn m .event .0) word undone
+
+-- the line of what was found, at its place among the messages, with the refusal and the undos done since the line before
+unfoldable pub lineFor : ℕ → Outcome → ℕ → ℕ → List ℕ
+lineFor place (message m n) word undone = lineOfMessage place m word undone
+lineFor place end word undone = []
+lineFor place (refused w) word undone = unreadLine place w
+
+-- the refusal of hear or settle, or 0
+unfoldable pub refusalIn : Replica → Outcome → ℕ
+refusalIn r (message m n) = answer r (callOf m) .refusal
+refusalIn r end = refusal.accepted
+refusalIn r (refused w) = w
+
+-- the undos done from before what was found until the replica is idle
+abbrev pub undoneIn : Replica → Outcome → ℕ
+undoneIn r o = undosShown (after r o) - undosShown r
+
+-- the lines of all that was found, the first at that place
+unfoldable pub messageLines : ℕ → Replica → List Outcome → List ℕ
+messageLines place r [] = []
+messageLines place r (o ∷ os) = lineFor place o (refusalIn r o) (undoneIn r o) ++ messageLines (suc place) (after r o) os
+
+-- the list lengths and the step totals, and the registers that are not 0
+unfoldable pub closing : Replica → List ℕ
+closing r =
+    totalsLine (length (r .book .plan .committed)) (length (r .book .plan .tentative)) (undosShown r) (executionsShown r)
+    ++ registerLines (registers (r .book .execution))
+
+-- ---- the whole
+
+-- the printout of a shop whose messages are these
+unfoldable pub printoutOf : ℕ → ℕ → List Outcome → List ℕ
+printoutOf panels own os =
+    boardLine panels own ++ (messageLines 1 (fresh panels own) os ++ closing (afterAll (fresh panels own) os))
+
+-- the printout of the bytes s: under two bytes and a bad shop have a line of their own and no other
+unfoldable pub printout : List ℕ → List ℕ
+printout s =
+    cond (ltb (length s) shopBytes) (refusedLine refusal.cutShort)
+    (cond (badShop (getD s 0 0) (getD s 1 0)) (refusedLine refusal.badShop)
+    (printoutOf (getD s 0 0) (getD s 1 0) (foundFrom s shopBytes)))
+
+-- ---- its size
+
+-- the bytes of the shortest message, a settlement
+abbrev pub leastMessage : ℕ
+leastMessage = 6
+
+-- at most so many messages are found, the last of which may be cut short
+abbrev pub mostMessages : ℕ
+mostMessages = suc (mostInput / leastMessage)
+
+-- the most bytes of a printout
+abbrev pub mostPrinted : ℕ
+mostPrinted = mostBoardBytes + mostMessages * mostMessageBytes + mostTotalsBytes + mostRegistersBytes

@@ -1,0 +1,252 @@
+/* The panel of a bake board as a component: link libmizzencord.a, which `rt staticlib mizzencord` writes for x86-64.
+ *
+ * A panel is memory that the caller owns: make it with mizzencord_fresh, then hand it to the calls. A call changes that memory and
+ * nothing else, keeps no pointer, asks for no heap and ends. Two calls on one panel must not run at the same time; panels are
+ * independent. Every call answers every argument: a call that cannot be done is refused by a number and changes nothing. A panel's
+ * bytes may be moved and copied, but not written by anybody else.
+ *
+ * A run of bytes is a pointer and a length; the pointer is not null, even where the length is 0. The runs that one call is lent must not
+ * overlap where one of them is written. Document 01's words: make is invoke, hear deliver, settle commit, carry out execute.
+ */
+#ifndef MIZZENCORD_H
+#define MIZZENCORD_H
+
+#include <stdbool.h>
+#include <stddef.h>
+#include <stdint.h>
+
+#ifdef __cplusplus
+extern "C" {
+#endif
+
+/* Limits of a shop. */
+enum {
+    MIZZENCORD_MOST_PANELS = 8,
+    MIZZENCORD_MOST_EVENTS = 64, /* requests of one panel in a shift */
+    MIZZENCORD_REGISTERS = 64,
+    MIZZENCORD_MOST_REPLIES = 64, /* replies of one mizzencord_run_due */
+    MIZZENCORD_LONGEST_MESSAGE = 82,
+    MIZZENCORD_CALL = 83,          /* bytes of a call in a list */
+    MIZZENCORD_ANSWER = 90,        /* bytes of an answer to it */
+    MIZZENCORD_MOST_PRINTED = 438473
+};
+
+/* Refusals. */
+enum {
+    MIZZENCORD_ACCEPTED = 0,
+    MIZZENCORD_BAD_SHOP = 1,         /* panels not 1 to 8, or the own panel not below them */
+    MIZZENCORD_BAD_NUMBER = 2,       /* panel not in the shop, or event not 1 to 64 */
+    MIZZENCORD_BAD_OPERATION = 3,    /* or a register over 63 */
+    MIZZENCORD_OWN_ECHO = 4,         /* a delivered request has the own panel */
+    MIZZENCORD_SHIFT_FULL = 6,       /* 64 own requests made */
+    MIZZENCORD_HELD_ALREADY = 7,     /* the same request is held */
+    MIZZENCORD_NUMBER_CLASH = 8,     /* the number is held with another content */
+    MIZZENCORD_NOT_HERE = 9,         /* no such request, or no such place */
+    MIZZENCORD_WEAK = 10,            /* settlement of a weak request */
+    MIZZENCORD_SETTLED_ALREADY = 11,
+    MIZZENCORD_WAITS = 12,           /* a number of the context is not known; the answer names it */
+    MIZZENCORD_NOTHING_TO_UNDO = 13,
+    MIZZENCORD_UNDO_FIRST = 14,
+    MIZZENCORD_NOTHING_TO_DO = 15,
+    MIZZENCORD_CUT_SHORT = 16,       /* the bytes end inside a message */
+    MIZZENCORD_BAD_LENGTH = 17,      /* the length is not the kind's */
+    MIZZENCORD_UNKNOWN_KIND = 18,
+    MIZZENCORD_SPARE_SET = 19,       /* the spare byte is not 0 */
+    MIZZENCORD_NO_ROOM = 20,         /* too few bytes lent */
+    MIZZENCORD_BAD_CONTEXT = 21      /* weak with a context, or one that names itself or a panel not in the shop */
+};
+
+/* Marks of a reply. */
+enum {
+    MIZZENCORD_REPLY_TO_NOBODY = 0, /* nobody waits for it at this panel */
+    MIZZENCORD_REPLY_WEAK = 1,
+    MIZZENCORD_REPLY_TENTATIVE = 2,
+    MIZZENCORD_REPLY_STABLE = 3
+};
+
+/* Codes of operations. */
+enum {
+    MIZZENCORD_READ = 1,
+    MIZZENCORD_SET = 2,
+    MIZZENCORD_ADD = 3,
+    MIZZENCORD_CLAIM = 4,
+    MIZZENCORD_MOVE = 5,
+    MIZZENCORD_CLAIM_ALL = 6 /* registers r to q together, at most four */
+};
+
+/* A request's number: a panel, counted from 0, and its event, counted from 1. */
+typedef struct {
+    uint8_t panel;
+    uint8_t event;
+} mizzencord_number;
+
+/* An operation on register r; under a move from r to q, under a claim of registers together on r to q, else q is 0. */
+typedef struct {
+    uint8_t code;
+    uint8_t r;
+    uint8_t q;
+    uint32_t amount;
+} mizzencord_operation;
+
+/* What is asked for when a request is made; one that is not strong is weak. */
+typedef struct {
+    mizzencord_operation operation;
+    bool strong;
+    uint32_t clock;
+} mizzencord_invocation;
+
+/* A request; word p of its context is panel p's, and bit e - 1 of it is event e's. */
+typedef struct {
+    mizzencord_number number;
+    uint32_t clock;
+    mizzencord_operation operation;
+    bool strong;
+    uint64_t context[MIZZENCORD_MOST_PANELS];
+} mizzencord_request;
+
+/* What a call answers: every field is set, with zeros where there is nothing to say. */
+typedef struct {
+    uint8_t refusal;
+    mizzencord_request request; /* the request to be spread, after mizzencord_invoke */
+    mizzencord_number number;   /* the request that was undone or executed; under MIZZENCORD_WAITS the missing one */
+    uint32_t response;
+    uint8_t mark;
+} mizzencord_answer;
+
+/* A message: the request, or the settlement of its number, for which the other fields stand for nothing. */
+typedef struct {
+    bool settles;
+    mizzencord_request request;
+} mizzencord_message;
+
+/* What stands at a place of a run of bytes: the refusal, the bytes taken and the message; at the end all is 0. */
+typedef struct {
+    uint8_t refusal;
+    size_t taken;
+    mizzencord_message message;
+} mizzencord_reading;
+
+/* What was written: the refusal, or the bytes of the message. */
+typedef struct {
+    uint8_t refusal;
+    size_t bytes;
+} mizzencord_written;
+
+/* What the message at a place led to: its bytes, 0 where none could be read, and the answer. */
+typedef struct {
+    size_t taken;
+    mizzencord_answer answer;
+} mizzencord_receipt;
+
+/* A reply that fell due. */
+typedef struct {
+    mizzencord_number number;
+    uint32_t response;
+    uint8_t mark;
+} mizzencord_reply;
+
+/* What all due steps were: how many undos and executions, and the replies, of which there are `count`, zeros behind them. */
+typedef struct {
+    uint32_t undos;
+    uint32_t executions;
+    size_t count;
+    mizzencord_reply replies[MIZZENCORD_MOST_REPLIES];
+} mizzencord_due;
+
+/* A register's value, 0 where it is refused. */
+typedef struct {
+    uint8_t refusal;
+    uint32_t value;
+} mizzencord_value;
+
+/* The request at a place, zeros where it is refused. */
+typedef struct {
+    uint8_t refusal;
+    mizzencord_request request;
+} mizzencord_placed;
+
+/* What a list of calls led to: no room, or fresh's refusal; and how many calls were run. */
+typedef struct {
+    uint8_t refusal;
+    size_t ran;
+} mizzencord_ran;
+
+/* A panel: 47,608 bytes, aligned as a uint64_t. */
+#define MIZZENCORD_PANEL_SIZE 47608
+typedef struct {
+    uint64_t memory[MIZZENCORD_PANEL_SIZE / 8];
+} mizzencord_panel;
+
+/* ---- the calls; each asks for a panel that mizzencord_fresh made */
+
+/* Makes the memory, whatever it holds, a panel of a shop at a shift's first moment; a refused one is a one-panel shop, panel 0. */
+uint8_t mizzencord_fresh(mizzencord_panel *panel, uint8_t panels, uint8_t own);
+
+/* A request is made at this panel; the answer has the request to be spread. A clock below the last own request's is raised to it. */
+mizzencord_answer mizzencord_invoke(mizzencord_panel *panel, mizzencord_invocation asked);
+
+/* A request of another panel is heard. */
+mizzencord_answer mizzencord_deliver(mizzencord_panel *panel, mizzencord_request request);
+
+/* The strong request of that number is settled; the answer has the response and mark of its stable reply where it falls due at once. */
+mizzencord_answer mizzencord_commit(mizzencord_panel *panel, mizzencord_number number);
+
+/* The message at that place of the bytes is read, and heard or settled; at the end of the bytes nothing is taken and nothing refused. */
+mizzencord_receipt mizzencord_receive(mizzencord_panel *panel, const uint8_t *bytes, size_t length, size_t at);
+
+/* The first request of the rollback list is undone; the answer names it. */
+mizzencord_answer mizzencord_undo(mizzencord_panel *panel);
+
+/* The first request that is to do is executed; the answer is its reply. */
+mizzencord_answer mizzencord_execute(mizzencord_panel *panel);
+
+/* Every due step is done until the panel is idle. */
+mizzencord_due mizzencord_run_due(mizzencord_panel *panel);
+
+/* ---- the showing calls, which change nothing */
+
+/* The value of register k. */
+mizzencord_value mizzencord_register(const mizzencord_panel *panel, uint8_t k);
+
+/* The count of accepted requests, which is the length of the standing order. */
+size_t mizzencord_requests(const mizzencord_panel *panel);
+
+/* The length of the settled list. */
+size_t mizzencord_committed(const mizzencord_panel *panel);
+
+/* The count of accepted settlements. */
+uint32_t mizzencord_commits(const mizzencord_panel *panel);
+
+/* The undos done since fresh. */
+uint32_t mizzencord_undos(const mizzencord_panel *panel);
+
+/* The executions done since fresh. */
+uint32_t mizzencord_executions(const mizzencord_panel *panel);
+
+/* The steps owed; the panel is idle where there are none. */
+size_t mizzencord_owed(const mizzencord_panel *panel);
+
+/* The request at a place of the standing order, places counted from 1. */
+mizzencord_placed mizzencord_at_place(const mizzencord_panel *panel, size_t place);
+
+/* ---- bus messages, without a panel */
+
+/* Reads the message at a place of the bytes; it judges the layout only. */
+mizzencord_reading mizzencord_read(const uint8_t *bytes, size_t length, size_t at);
+
+/* Writes a message at the front of `out`: exactly its bytes, at most MIZZENCORD_LONGEST_MESSAGE, or nothing where it is refused. */
+mizzencord_written mizzencord_write(mizzencord_message message, uint8_t *out, size_t length);
+
+/* ---- whole shifts; docs/CALLS.md has the bytes of a list of calls */
+
+/* Puts the printout of the input at the front of `out`: its bytes, or 0 where under MIZZENCORD_MOST_PRINTED bytes are lent. */
+size_t mizzencord_print(const uint8_t *input, size_t input_length, uint8_t *out, size_t out_length);
+
+/* Runs a list of calls on a panel made for it, MIZZENCORD_ANSWER bytes for each into `out`; without room for all none is run. */
+mizzencord_ran mizzencord_run(const uint8_t *calls, size_t calls_length, uint8_t *out, size_t out_length);
+
+#ifdef __cplusplus
+}
+#endif
+
+#endif
