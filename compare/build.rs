@@ -10,10 +10,10 @@ fn main() {
     }
     let crate_folder = env::var("CARGO_MANIFEST_DIR").expect("cargo names the folder");
     let library = env::var("PROVED_LIBRARY").unwrap_or_else(|_| {
-        Path::new(&crate_folder).join("../target/staticlib/libexports.a").display().to_string()
+        Path::new(&crate_folder).join("../target/staticlib/libmizzencord.a").display().to_string()
     });
     let folder = Path::new(&library).parent().expect("a library stands in a folder");
     println!("cargo:rerun-if-changed={library}");
     println!("cargo:rustc-link-search=native={}", folder.display());
-    println!("cargo:rustc-link-lib=static=exports");
+    println!("cargo:rustc-link-lib=static=mizzencord");
 }

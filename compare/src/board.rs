@@ -1,6 +1,7 @@
-//! What is compared: four functions on numbers and byte slices, as
-//! docs/CALLS.md describes them.
+//! What is compared of the functions over bytes alone, as docs/CALLS.md
+//! describes them.
 
+use crate::header::Ran;
 use crate::printout::printout;
 use crate::{calls, fields};
 
@@ -9,7 +10,7 @@ pub const MOST_PRINTED: usize = 438_473;
 
 pub trait Board {
     fn print(&self, input: &[u8], out: &mut [u8]) -> usize;
-    fn run(&self, calls: &[u8], out: &mut [u8]) -> usize;
+    fn run(&self, calls: &[u8], out: &mut [u8]) -> Ran;
     fn read(&self, bytes: &[u8], at: usize, out: &mut [u8]) -> usize;
     fn write(&self, fields: &[u8], out: &mut [u8]) -> usize;
 }
@@ -27,7 +28,7 @@ impl Board for Handwritten {
         printed.len()
     }
 
-    fn run(&self, calls: &[u8], out: &mut [u8]) -> usize {
+    fn run(&self, calls: &[u8], out: &mut [u8]) -> Ran {
         calls::run(calls, out)
     }
 

@@ -3,10 +3,11 @@
 
 use std::fmt::Write;
 
+use crate::header::Ran;
 use crate::panel::{Answer, Panel};
 use crate::printout::MOST_BYTES;
 use crate::random::Call;
-use crate::refusal::ACCEPTED;
+use crate::refusal::{ACCEPTED, NO_ROOM};
 use crate::request::*;
 use crate::wire::{self, Message, Parsed};
 
@@ -28,23 +29,28 @@ pub fn count(bytes: &[u8]) -> usize {
 }
 
 /// Runs the calls from fresh and puts their answers at the front of `out`,
-/// all or none: how many were run.
-pub fn run(bytes: &[u8], out: &mut [u8]) -> usize {
-    let calls = count(bytes);
-    if out.len() / ANSWER_SIZE < calls {
-        return 0;
+/// all or none: how many were run, and that there is no room or else fresh's
+/// refusal.
+pub fn run(bytes: &[u8], out: &mut [u8]) -> Ran {
+    let ran = count(bytes);
+    if out.len() / ANSWER_SIZE < ran {
+        return Ran { refusal: NO_ROOM, ran: 0 };
     }
-    let mut panel = fresh(bytes);
+    let (refusal, mut panel) = fresh_told(bytes);
     for (call, answer) in each(bytes).zip(out.chunks_exact_mut(ANSWER_SIZE)) {
         put_answer(&carry(&mut panel, &decode(call)), answer);
     }
-    calls
+    Ran { refusal, ran }
 }
 
 /// The panel that the first two bytes ask for.
 pub fn fresh(bytes: &[u8]) -> Panel {
+    fresh_told(bytes).1
+}
+
+fn fresh_told(bytes: &[u8]) -> (u8, Panel) {
     let byte = |at: usize| bytes.get(at).copied().unwrap_or(0);
-    Panel::fresh(byte(0), byte(1)).1
+    Panel::fresh(byte(0), byte(1))
 }
 
 /// The bytes of each call.

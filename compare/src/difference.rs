@@ -5,6 +5,7 @@ use std::fmt::Write;
 
 use crate::board::Board;
 use crate::calls::{self, ANSWER_SIZE, CALLS_AT, CALL_SIZE};
+use crate::header::Ran;
 use crate::wire::{self, Parsed};
 
 /// What the lent bytes hold beforehand, so that bytes left alone show.
@@ -41,9 +42,11 @@ pub struct Case {
     pub room: usize,
 }
 
-/// A board's result with the lent bytes after it.
+/// A board's result with the lent bytes after it; the refusal beside it is that
+/// of a list of calls.
 #[derive(Default, PartialEq, Eq)]
 pub struct Outcome {
+    pub refusal: u8,
     pub result: usize,
     pub out: Vec<u8>,
 }
@@ -54,11 +57,14 @@ impl Outcome {
         self.out.clear();
         self.out.resize(case.room, FILL);
         let out = &mut self.out[..];
-        self.result = match case.function {
-            Function::Print => board.print(&case.bytes, out),
-            Function::Run => board.run(&case.bytes, out),
-            Function::Read => board.read(&case.bytes, case.at, out),
-            Function::Write => board.write(&case.bytes, out),
+        (self.refusal, self.result) = match case.function {
+            Function::Print => (0, board.print(&case.bytes, out)),
+            Function::Run => {
+                let Ran { refusal, ran } = board.run(&case.bytes, out);
+                (refusal, ran)
+            }
+            Function::Read => (0, board.read(&case.bytes, case.at, out)),
+            Function::Write => (0, board.write(&case.bytes, out)),
         };
     }
 
@@ -144,7 +150,7 @@ impl Case {
         let _ = writeln!(text, "fresh {:?}", &self.bytes[..CALLS_AT.min(self.bytes.len())]);
         let [one, other] = outcomes;
         for (name, outcome) in names.iter().zip(outcomes) {
-            let _ = writeln!(text, "{name}: {} calls run", outcome.result);
+            let _ = writeln!(text, "{name}: refusal {}, {} calls run", outcome.refusal, outcome.result);
         }
         let answers = one.out.chunks_exact(ANSWER_SIZE).zip(other.out.chunks_exact(ANSWER_SIZE));
         for ((place, call), (first, second)) in calls::each(&self.bytes).enumerate().zip(answers) {
@@ -158,7 +164,9 @@ impl Case {
                 return;
             }
         }
-        let _ = writeln!(text, "the bytes behind the answers differ");
+        if (one.refusal, one.result) == (other.refusal, other.result) {
+            let _ = writeln!(text, "the bytes behind the answers differ");
+        }
     }
 
     fn show_lines(&self, text: &mut String, names: [&str; 2], outcomes: &[Outcome; 2]) {

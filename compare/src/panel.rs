@@ -207,14 +207,24 @@ impl Panel {
     /// Does every step that is due, so that the panel is idle, and gives
     /// their number. The replies are lost on the caller.
     pub fn run_due(&mut self) -> usize {
-        let steps = self.owed();
+        let (undos, carry_outs) = self.run_due_telling(|_, _, _| ());
+        (undos + carry_outs) as usize
+    }
+
+    /// Does every step that is due, tells number, response and mark of each
+    /// carry-out, and gives how many undos and carry-outs there were.
+    #[inline]
+    pub fn run_due_telling(&mut self, mut tell: impl FnMut(Number, u32, u8)) -> (u32, u32) {
+        let undos = self.on_board - self.executed;
+        let carry_outs = self.accepted - self.executed;
         while self.on_board > self.executed {
             self.roll_back_top();
         }
         while self.executed < self.accepted {
-            self.execute_next();
+            let (slot, response, mark) = self.execute_next();
+            tell(Number::of_slot(slot), response, mark);
         }
-        steps
+        (undos as u32, carry_outs as u32)
     }
 
     // The calls that show something.

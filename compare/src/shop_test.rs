@@ -140,12 +140,12 @@ impl<'a> ShopTest<'a> {
         for list in &lists {
             let length = calls::count(list) * ANSWER_SIZE;
             grow(&mut self.out, length);
-            self.board.run(list, &mut self.out[..length]);
+            let ran = self.board.run(list, &mut self.out[..length]);
             accounts.push(Account::read(list, &self.out[..length]));
             if let Some(other) = self.other {
                 grow(&mut self.other_out, length);
-                other.run(list, &mut self.other_out[..length]);
-                let differs = self.out[..length] != self.other_out[..length];
+                let other_ran = other.run(list, &mut self.other_out[..length]);
+                let differs = ran != other_ran || self.out[..length] != self.other_out[..length];
                 different = different.or_else(|| differs.then(|| run_case(list)));
             }
         }

@@ -16,7 +16,7 @@ use mizzencord_compare::moves::MoveLimits;
 use mizzencord_compare::progress::{progress, progress_ends};
 use mizzencord_compare::proved::Proved;
 use mizzencord_compare::random::Random;
-use mizzencord_compare::refusal::REFUSALS;
+use mizzencord_compare::refusal::{BAD_SHOP, NO_ROOM, REFUSALS};
 use mizzencord_compare::shop_test::{Difference, ShopTest};
 
 const SEED: u64 = 1;
@@ -36,6 +36,9 @@ const LENGTHS: [usize; 12] = [1, 4, 10, 20, 40, 60, 60, 100, 200, 400, 400, 1500
 #[derive(Default)]
 struct Counts {
     lists: usize,
+    /// Lists of a bad shop, and lists without room for their answers.
+    bad_shops: usize,
+    without_room: usize,
     calls: usize,
     refusals: [usize; REFUSALS],
     raised: usize,
@@ -92,6 +95,8 @@ impl Comparison {
         match case.function {
             Function::Run => {
                 counts.lists += 1;
+                counts.bad_shops += (self.proved.refusal == BAD_SHOP) as usize;
+                counts.without_room += (self.proved.refusal == NO_ROOM) as usize;
                 counts.calls += result;
                 let answers = self.proved.out.chunks_exact(ANSWER_SIZE).take(result);
                 for (call, answer) in calls::each(&case.bytes).zip(answers) {
@@ -264,9 +269,11 @@ fn long_shifts(comparison: &mut Comparison, random: &mut Random) {
 
 fn summary(counts: &Counts) {
     println!(
-        "calls: {} in {} lists; {}",
+        "calls: {} in {} lists, {} of a bad shop and {} without room; {}",
         counts.calls,
         counts.lists,
+        counts.bad_shops,
+        counts.without_room,
         by_number(counts.refusals[0], &counts.refusals)
     );
     println!("requests made whose clock was raised: {}", counts.raised);

@@ -5,9 +5,10 @@ use mizzencord_compare::board::{Board, Handwritten};
 use mizzencord_compare::calls::{self, ANSWER_SIZE};
 use mizzencord_compare::cases;
 use mizzencord_compare::difference::{differ, Case, Function};
+use mizzencord_compare::header::Ran;
 use mizzencord_compare::panel::{MARK_STABLE, MARK_TENTATIVE};
 use mizzencord_compare::random::Call;
-use mizzencord_compare::refusal::{BAD_CONTEXT, CUT_SHORT, NO_ROOM};
+use mizzencord_compare::refusal::{BAD_CONTEXT, BAD_SHOP, CUT_SHORT, NO_ROOM};
 use mizzencord_compare::request::*;
 
 use crate::naive;
@@ -24,9 +25,9 @@ impl Board for Faulty {
         length
     }
 
-    fn run(&self, calls: &[u8], out: &mut [u8]) -> usize {
+    fn run(&self, calls: &[u8], out: &mut [u8]) -> Ran {
         let ran = Handwritten.run(calls, out);
-        for answer in out.chunks_exact_mut(ANSWER_SIZE).take(ran) {
+        for answer in out.chunks_exact_mut(ANSWER_SIZE).take(ran.ran) {
             if answer[1] == MARK_STABLE {
                 answer[1] = MARK_TENTATIVE;
             }
@@ -97,14 +98,29 @@ fn calls_and_answers_are_laid_out() {
     assert_eq!(bytes[2..22], [1, 18, 0, 1, 0, 0, 0, 9, 0, 0, 0, 2, 4, 0, 0, 2, 1, 0, 0, 0]);
     assert_eq!(bytes[85], 3);
     let mut out = [7; 2 * 90 + 1];
-    assert_eq!(Handwritten.run(&bytes, &mut out[..179]), 0);
-    assert_eq!(Handwritten.run(&bytes, &mut out), 2);
+    assert_eq!(Handwritten.run(&bytes, &mut out[..179]), Ran { refusal: NO_ROOM, ran: 0 });
+    assert_eq!(Handwritten.run(&bytes, &mut out), Ran { refusal: 0, ran: 2 });
     assert_eq!(out[..8], [0; 8]);
     assert_eq!(out[8..26], [18, 0, 1, 0, 2, 1, 9, 0, 0, 0, 2, 4, 0, 0, 2, 1, 0, 0]);
     assert!(out[26..90].iter().all(|byte| *byte == 0));
     assert_eq!(out[90..98], [0, 1, 2, 1, 0, 0, 0, 0]);
     assert_eq!(out[98..116], [18, 0, 1, 0, 0, 0, 0, 0, 0, 0, 0, 0, 0, 0, 0, 0, 0, 0]);
     assert_eq!(out[180], 7);
+}
+
+/// No room is told before a bad shop, whose calls are run on a shop of one.
+#[test]
+fn a_list_tells_its_refusal() {
+    let mut bytes = vec![9, 0];
+    assert!(calls::append(&mut bytes, &Call::Make(Operation::new(READ, 0, 0, 0), false, Clock(9))));
+    let mut out = [7; ANSWER_SIZE];
+    assert_eq!(Handwritten.run(&bytes, &mut out[1..]), Ran { refusal: NO_ROOM, ran: 0 });
+    assert_eq!(out, [7; ANSWER_SIZE]);
+    assert_eq!(Handwritten.run(&bytes, &mut out), Ran { refusal: BAD_SHOP, ran: 1 });
+    assert_eq!(out[8..14], [18, 0, 1, 0, 0, 1]);
+    assert_eq!(Handwritten.run(&bytes[..2], &mut []), Ran { refusal: BAD_SHOP, ran: 0 });
+    assert_eq!(Handwritten.run(&[], &mut []), Ran { refusal: BAD_SHOP, ran: 0 });
+    assert_eq!(Handwritten.run(&[1], &mut []), Ran { refusal: 0, ran: 0 });
 }
 
 /// The lines of a list of calls, worked out by hand.
@@ -141,7 +157,7 @@ fn a_raised_clock_shows_in_the_answer() {
     }
     assert!(calls::append(&mut bytes, &Call::CarryOut));
     let mut out = [0; 6 * ANSWER_SIZE];
-    assert_eq!(Handwritten.run(&bytes, &mut out), 6);
+    assert_eq!(Handwritten.run(&bytes, &mut out), Ran { refusal: 0, ran: 6 });
     let answers = calls::each(&bytes).zip(out.chunks_exact(ANSWER_SIZE));
     let raised: Vec<bool> = answers.map(|(call, answer)| calls::is_raised(call, answer)).collect();
     assert_eq!(raised, [false, true, false, false, false, false]);
@@ -155,7 +171,7 @@ fn all_due_steps_are_answered_by_their_count() {
         assert!(calls::append(&mut bytes, &call));
     }
     let mut out = [7; 5 * 90];
-    assert_eq!(Handwritten.run(&bytes, &mut out), 5);
+    assert_eq!(Handwritten.run(&bytes, &mut out), Ran { refusal: 0, ran: 5 });
     assert_eq!(bytes[2 + 2 * 83], 4);
     assert_eq!(out[180..188], [0, 0, 0, 0, 2, 0, 0, 0]);
     assert_eq!(out[188..192], [18, 0, 1, 0]);

@@ -84,7 +84,7 @@ pub fn run(op: &Operation, board: &mut [u64; 64]) -> u32 {
             // What q has no room for goes back to r.
             let taken = if v > former { former } else { v };
             let whole = board[q] + taken;
-            let back = if whole > TOP { whole - TOP } else { 0 };
+            let back = whole.saturating_sub(TOP);
             board[r] = former - taken + back;
             board[q] = whole - back;
             (taken - back) as u32

@@ -4,10 +4,11 @@
 use mizzencord_compare::account::Account;
 use mizzencord_compare::board::{Board, Handwritten, MOST_PRINTED};
 use mizzencord_compare::calls::{self, ANSWER_SIZE};
+use mizzencord_compare::header::Ran;
 use mizzencord_compare::histories::Shop;
 use mizzencord_compare::panel::{Answer, MARK_STABLE};
 use mizzencord_compare::random::Call;
-use mizzencord_compare::refusal::NOTHING_TO_DO;
+use mizzencord_compare::refusal::{ACCEPTED, NOTHING_TO_DO};
 use mizzencord_compare::request::*;
 use mizzencord_compare::shop_prints::{self, PrintFinding};
 use mizzencord_compare::shop_shrink::{found, show, shrunk, with_fewer_calls};
@@ -26,7 +27,7 @@ const CLOCK_IN_CALL: usize = 7;
 const CLOCK_IN_MESSAGE: usize = 6;
 
 impl Board for Faulty {
-    fn run(&self, list: &[u8], out: &mut [u8]) -> usize {
+    fn run(&self, list: &[u8], out: &mut [u8]) -> Ran {
         let mut changed = list.to_vec();
         if list[1] % 2 == 1 {
             let calls = changed[calls::CALLS_AT..].chunks_exact_mut(calls::CALL_SIZE);
@@ -34,7 +35,9 @@ impl Board for Faulty {
             heard.for_each(|call| call[CLOCK_IN_CALL] &= 0xfe);
         }
         let ran = Handwritten.run(&changed, out);
-        for answer in out.chunks_exact_mut(ANSWER_SIZE).take(ran).filter(|answer| answer[1] == MARK_STABLE) {
+        for answer in
+            out.chunks_exact_mut(ANSWER_SIZE).take(ran.ran).filter(|answer| answer[1] == MARK_STABLE)
+        {
             answer[4] = answer[4].wrapping_add((list[1] == 0) as u8);
         }
         ran
@@ -248,9 +251,9 @@ fn a_stable_reply_that_another_replay_contradicts_is_found() {
 struct Refusing;
 
 impl Board for Refusing {
-    fn run(&self, list: &[u8], out: &mut [u8]) -> usize {
+    fn run(&self, list: &[u8], out: &mut [u8]) -> Ran {
         out.iter_mut().step_by(ANSWER_SIZE).for_each(|refusal| *refusal = NOTHING_TO_DO);
-        calls::count(list)
+        Ran { refusal: ACCEPTED, ran: calls::count(list) }
     }
 
     fn print(&self, input: &[u8], out: &mut [u8]) -> usize {

@@ -133,8 +133,9 @@ fn own_clocks(cases: &mut Cases, shop: (u8, u8)) {
 fn full_shifts(cases: &mut Cases, shop: (u8, u8)) {
     let (panels, own) = shop;
     let makes = |strong: bool| -> Vec<Call> {
-        let operation = |event: u32| if event % 3 == 0 { set(4, event) } else { add(4, event) };
-        let call = |event: u32| Call::Make(operation(event), strong && event % 4 == 0, Clock(1000 - event));
+        let operation = |event: u32| if event.is_multiple_of(3) { set(4, event) } else { add(4, event) };
+        let call =
+            |event: u32| Call::Make(operation(event), strong && event.is_multiple_of(4), Clock(1000 - event));
         (1..=64).map(call).collect()
     };
     let more = [999, 935, 998, 1000, 0, TOP].map(|clock| make(set(4, 1), clock));
