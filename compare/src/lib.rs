@@ -20,6 +20,11 @@ pub mod histories;
 pub mod memory;
 pub mod moves;
 pub mod panel;
+pub mod panel_case;
+pub mod panel_draw;
+pub mod panel_pair;
+pub mod panel_tally;
+pub mod panel_test;
 pub mod printout;
 pub mod progress;
 #[cfg(feature = "proved")]

@@ -822,7 +822,7 @@ pub fn bus_run(random: &mut Random, messages: usize) -> Vec<u8> {
 }
 
 /// Damages the message that starts at a place and ends the run.
-fn damage_bytes(random: &mut Random, bytes: &mut Vec<u8>, start: usize) {
+pub fn damage_bytes(random: &mut Random, bytes: &mut Vec<u8>, start: usize) {
     let length = bytes.len() - start;
     match random.below(7) {
         0 => bytes[start] = random.one_of(&[0, 5, 6, 7, 17, 18, 19, 81, 82, 83, 255]),

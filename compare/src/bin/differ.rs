@@ -1,6 +1,6 @@
 //! Compares the proved library with this crate on the stored cases and then on
-//! seeded ones, and lays the panels of seeded shops side by side. Ends at the
-//! first difference, shrunk.
+//! seeded ones, lays the panels of seeded shops side by side, and drives panels
+//! of both call by call. Ends at the first difference, shrunk.
 
 use std::path::Path;
 use std::{env, fs, io, process};
@@ -13,8 +13,10 @@ use mizzencord_compare::claims::ClaimOutcomes;
 use mizzencord_compare::counting::Counting;
 use mizzencord_compare::difference::{Case, Function, Outcome};
 use mizzencord_compare::moves::MoveLimits;
+use mizzencord_compare::panel_tally::PanelTally;
+use mizzencord_compare::panel_test::{self, Told};
 use mizzencord_compare::progress::{progress, progress_ends};
-use mizzencord_compare::proved::Proved;
+use mizzencord_compare::proved::{Panel, Proved};
 use mizzencord_compare::random::Random;
 use mizzencord_compare::refusal::{BAD_SHOP, NO_ROOM, REFUSALS};
 use mizzencord_compare::shop_test::{Difference, ShopTest};
@@ -22,9 +24,11 @@ use mizzencord_compare::shop_test::{Difference, ShopTest};
 const SEED: u64 = 1;
 const CALLS: usize = 5_000_000;
 const SHOPS: usize = 100_000;
+const PANEL_CALLS: usize = 2_000_000;
+const SOAKED: usize = 1_000_000;
 
-const HELP: &str = "differ [SEED [CALLS]], or for one part alone differ --calls [SEED [CALLS]] \
-                    or differ --shops [SEED [SHOPS]]";
+const HELP: &str = "differ [SEED [CALLS]], or for one part alone differ --calls [SEED [CALLS]], \
+                    --shops [SEED [SHOPS]], --panels [SEED [CALLS]] or --soak [SEED [CALLS]]";
 
 /// How often the progress is told.
 const PROGRESS_LINES: usize = 20;
@@ -153,11 +157,14 @@ fn stored_cases(folder: &Path) -> io::Result<Vec<Case>> {
     Ok(cases)
 }
 
-/// What the arguments ask for: a seed, how many calls and how many shops.
+/// What the arguments ask for: a seed, and how much of each part.
+#[derive(Default)]
 struct Asked {
     seed: u64,
     calls: Option<usize>,
     shops: Option<usize>,
+    panels: Option<usize>,
+    soak: Option<usize>,
 }
 
 impl Asked {
@@ -168,14 +175,23 @@ impl Asked {
         };
         let numbers: Vec<u64> = numbers.iter().map(|word| word.parse().ok()).collect::<Option<_>>()?;
         let seed = numbers.first().copied().unwrap_or(SEED);
-        let count = numbers.get(1).map(|count| *count as usize);
-        let (calls, shops) = match part {
-            "" => (Some(count.unwrap_or(CALLS)), Some(SHOPS)),
-            "--calls" => (Some(count.unwrap_or(CALLS)), None),
-            "--shops" => (None, Some(count.unwrap_or(SHOPS))),
+        let asked = Asked { seed, ..Asked::default() };
+        let count = |default| Some(numbers.get(1).map_or(default, |count| *count as usize));
+        let asked = match part {
+            "" => Asked {
+                calls: count(CALLS),
+                shops: Some(SHOPS),
+                panels: Some(PANEL_CALLS),
+                soak: Some(SOAKED),
+                ..asked
+            },
+            "--calls" => Asked { calls: count(CALLS), ..asked },
+            "--shops" => Asked { shops: count(SHOPS), ..asked },
+            "--panels" => Asked { panels: count(PANEL_CALLS), ..asked },
+            "--soak" => Asked { soak: count(SOAKED), ..asked },
             _ => return None,
         };
-        (numbers.len() <= 2).then_some(Asked { seed, calls, shops })
+        (numbers.len() <= 2).then_some(asked)
     }
 }
 
@@ -191,8 +207,49 @@ fn main() -> io::Result<()> {
     if let Some(shops) = asked.shops {
         compare_shops(asked.seed, shops);
     }
+    if let Some(calls) = asked.panels {
+        compare_panels(asked.seed, calls);
+    }
+    if let Some(calls) = asked.soak {
+        soak(asked.seed, calls);
+    }
     println!("no difference");
     Ok(())
+}
+
+/// Drives panels of the library and of this crate call by call.
+fn compare_panels(seed: u64, calls: usize) {
+    let mut tally = PanelTally::default();
+    told_or_ended(panel_test::every_fresh::<Panel>(&mut tally));
+    println!("fresh of every shop: {} with a call after it", tally.shifts);
+    let compared = panel_test::compare::<Panel>(seed, calls, &mut told_at_times("panel by panel", calls));
+    println!("panel by panel, seed {seed}\n{}", told_or_ended(compared));
+}
+
+/// Drives one panel in one memory over many shifts.
+fn soak(seed: u64, calls: usize) {
+    let soaked = panel_test::soak::<Panel>(seed, calls, &mut told_at_times("on one memory", calls));
+    println!("on one memory, seed {seed}\n{}", told_or_ended(soaked));
+}
+
+/// Tells the progress every so many calls.
+fn told_at_times(what: &str, calls: usize) -> impl FnMut(usize) + '_ {
+    let mut next_line = 0;
+    move |done| {
+        if done >= next_line {
+            progress(&format!("{done} of {calls} calls {what}"));
+            next_line += calls.div_ceil(PROGRESS_LINES);
+        }
+    }
+}
+
+/// What was compared; at a difference it is shown and the program ends.
+fn told_or_ended<T>(compared: Result<T, Told>) -> T {
+    progress_ends();
+    compared.unwrap_or_else(|told| {
+        println!("DIFFERENCE\n{told}");
+        process::exit(1);
+    })
 }
 
 fn compare_calls(seed: u64, calls: usize) -> io::Result<()> {

@@ -11,6 +11,7 @@ mod long_shifts;
 mod moves;
 mod naive;
 mod own_clocks;
+mod panels;
 mod random_bytes;
 mod random_calls;
 mod refusals;
