@@ -84,16 +84,17 @@ fn soaked_told<W: Watched>(case: &PanelCase, found: &Found, shifts: usize) -> To
     format!("panel at step {after} of shift {shifts} on one memory, not in the shift alone: {told}")
 }
 
-/// Fresh for all numbers of panels and own panels, good or bad, each with one
-/// call after it, and that it writes the last byte of a panel.
+/// Fresh for all numbers of panels and own panels, good or bad, one after the
+/// other on one memory, each with one call after it; and that it writes the last
+/// byte of a panel.
 pub fn every_fresh<W: Watched>(tally: &mut PanelTally) -> Result<(), Told> {
+    let mut panel = [Pair::<W>::fresh(&Start { fill: Fill::Byte(0xaa), odd: true }, (8, 7), 0)?];
     for shop in 0..=u16::MAX {
         let [panels, own] = shop.to_le_bytes();
-        let start = Start { fill: Fill::Byte(own ^ 0xa5), odd: panels & 1 == 1 };
-        let steps = vec![(0, Step::Call(first_call()))];
-        let case = PanelCase { start, shops: vec![(panels, own)], steps };
-        if case.run::<W>(tally).is_some() {
-            return Err(case.shrunk::<W>().told::<W>());
+        let steps = vec![(0, Step::Fresh(panels, own)), (0, Step::Call(first_call()))];
+        let case = PanelCase { start: Start::ZEROS, shops: vec![(1, 0)], steps };
+        if let Some(found) = case.run_on(&mut panel, tally) {
+            return Err(soaked_told::<W>(&case, &found, tally.shifts));
         }
         if panels < 10 && own < 10 && last_bytes::<W>(panels, own).is_some_and(|[one, other]| one != other) {
             return Err(format!("panel's last byte: fresh {panels} {own} does not write it"));

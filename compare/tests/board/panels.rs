@@ -157,7 +157,8 @@ fn planted_faults_are_found_and_shrunk() {
 fn a_panel_is_no_different_from_itself() {
     let mut tally = PanelTally::default();
     assert_eq!(panel_test::every_fresh::<OwnPanel>(&mut tally), Ok(()));
-    assert_eq!(tally.calls, 1 << 16);
+    assert_eq!((tally.fresh, tally.calls), (1 << 16, 2 << 16));
+    assert_eq!(tally.refusals[1], (1 << 16) - 36);
     let tally = panel_test::compare::<OwnPanel>(3, 20_000, &mut |_| ()).unwrap();
     assert!(tally.calls >= 20_000 && tally.copied > 20 && tally.moved > 20);
     let both = [tally.by_struct, tally.received + tally.ended + tally.unread];
