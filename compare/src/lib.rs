@@ -44,4 +44,5 @@ pub mod side_by_side;
 pub mod standing;
 pub mod steady;
 pub mod telling;
+pub mod two_panels;
 pub mod wire;

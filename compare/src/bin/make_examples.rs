@@ -1,4 +1,5 @@
-//! Writes the stored inputs and their outputs into the folder named.
+//! Writes the stored inputs and their outputs into the folder named, and what
+//! the example in C prints.
 
 use std::path::Path;
 use std::{env, fs, io};
@@ -7,6 +8,7 @@ use mizzencord_compare::printout::printout;
 use mizzencord_compare::random::{append, awkward_input, busy_input, together_input};
 use mizzencord_compare::request::*;
 use mizzencord_compare::steady::{late_input, steady_input};
+use mizzencord_compare::two_panels;
 use mizzencord_compare::wire::Message;
 
 fn main() -> io::Result<()> {
@@ -23,7 +25,8 @@ fn main() -> io::Result<()> {
         fs::write(Path::new(&folder).join(format!("{name}.bin")), &input)?;
         fs::write(Path::new(&folder).join(format!("{name}.out")), printout(&input))?;
     }
-    Ok(())
+    fs::create_dir_all(Path::new(&folder).join("panel"))?;
+    fs::write(Path::new(&folder).join("panel/expected.txt"), two_panels::printed())
 }
 
 const BUSY_SEED: u64 = 476;

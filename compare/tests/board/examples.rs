@@ -5,6 +5,7 @@ use std::path::Path;
 
 use mizzencord_compare::calls;
 use mizzencord_compare::printout::printout;
+use mizzencord_compare::two_panels;
 use mizzencord_compare::wire::{parse, Parsed};
 
 use crate::{naive, worked};
@@ -26,6 +27,12 @@ fn stored_outputs_are_printed_again() {
         assert!(naive::printout(&input).as_bytes() == output, "{name}");
     }
     assert!(stored("worked.bin") == worked::INPUT);
+}
+
+/// The lines that the example in C must print.
+#[test]
+fn the_lines_of_the_two_panels_are_told_again() {
+    assert_eq!(two_panels::printed().as_bytes(), stored("panel/expected.txt"));
 }
 
 /// Two panels of one shop that got the same messages at different times: what

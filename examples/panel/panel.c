@@ -1,0 +1,148 @@
+/* Two panels of one bake shop in one program. Both make requests and spread them over a bus of bytes; each settles the strong one
+ * that it made, and in the end both hold the same board. In a real shop all panels settle in one order that the shop agrees on. */
+#include <inttypes.h>
+#include <stdio.h>
+
+#include "mizzencord.h"
+
+enum { PANELS = 2, BUS_BYTES = 1024, TRAYS = 4, OUT = 5, DECK = 0 };
+
+typedef struct {
+    mizzencord_panel board;
+    size_t heard; /* the bytes of the bus that it took */
+} station;
+
+static station stations[PANELS];
+static uint8_t bus[BUS_BYTES];
+static size_t bus_length;
+
+static const char *const refusals[] = {
+    [MIZZENCORD_ACCEPTED] = "accepted", [MIZZENCORD_BAD_SHOP] = "bad shop", [MIZZENCORD_BAD_NUMBER] = "bad number",
+    [MIZZENCORD_BAD_OPERATION] = "bad operation", [MIZZENCORD_OWN_ECHO] = "own echo", [MIZZENCORD_SHIFT_FULL] = "shift full",
+    [MIZZENCORD_HELD_ALREADY] = "held already", [MIZZENCORD_NUMBER_CLASH] = "number clash", [MIZZENCORD_NOT_HERE] = "not here",
+    [MIZZENCORD_WEAK] = "weak", [MIZZENCORD_SETTLED_ALREADY] = "settled already", [MIZZENCORD_WAITS] = "waits",
+    [MIZZENCORD_NOTHING_TO_UNDO] = "nothing to undo", [MIZZENCORD_UNDO_FIRST] = "undo first",
+    [MIZZENCORD_NOTHING_TO_DO] = "nothing to do", [MIZZENCORD_CUT_SHORT] = "cut short", [MIZZENCORD_BAD_LENGTH] = "bad length",
+    [MIZZENCORD_UNKNOWN_KIND] = "unknown kind", [MIZZENCORD_SPARE_SET] = "spare set", [MIZZENCORD_NO_ROOM] = "no room",
+    [MIZZENCORD_BAD_CONTEXT] = "bad context",
+};
+static const char *const marks[] = {"unawaited", "weak", "tentative", "stable"};
+
+static void put(uint8_t *at, uint64_t value, size_t bytes) {
+    for (size_t i = 0; i < bytes; i++) at[i] = (uint8_t)(value >> (8 * i));
+}
+
+/* Puts the message of these fields at the end of the bus. */
+static void spread(const uint8_t fields[MIZZENCORD_FIELDS]) {
+    size_t written = mizzencord_write(fields, MIZZENCORD_FIELDS, bus + bus_length, sizeof bus - bus_length);
+    if (written >= 256) printf("the bus: %s\n", refusals[written / 256]);
+    else bus_length += written;
+}
+
+static void spread_request(const mizzencord_request *request) {
+    const mizzencord_operation *asked = &request->operation;
+    uint8_t fields[MIZZENCORD_FIELDS] = {
+        [2] = request->strong, [4] = request->number.panel, [5] = request->number.event,
+        [10] = asked->code, [11] = asked->r, [12] = asked->q};
+    put(fields + 6, request->clock, 4);
+    put(fields + 14, asked->amount, 4);
+    for (size_t p = 0; p < MIZZENCORD_MOST_PANELS; p++) put(fields + 18 + 8 * p, request->context[p], 8);
+    spread(fields);
+}
+
+static void spread_settlement(mizzencord_number number) {
+    spread((uint8_t[MIZZENCORD_FIELDS]){[0] = 1, [4] = number.panel, [5] = number.event});
+}
+
+static void print_reply(int panel, mizzencord_number number, uint32_t response, uint8_t mark) {
+    printf("panel %d: %s reply to %d/%d: %" PRIu32 "\n", panel, marks[mark], number.panel, number.event, response);
+}
+
+static void make(int panel, mizzencord_operation operation, bool strong, uint32_t clock) {
+    mizzencord_invocation asked = {operation, strong, clock};
+    mizzencord_answer answer = mizzencord_invoke(&stations[panel].board, asked);
+    if (answer.refusal != MIZZENCORD_ACCEPTED) {
+        printf("panel %d cannot make it: %s\n", panel, refusals[answer.refusal]);
+        return;
+    }
+    mizzencord_number number = answer.request.number;
+    printf("panel %d makes %d/%d, %s\n", panel, number.panel, number.event, strong ? "strong" : "weak");
+    spread_request(&answer.request);
+}
+
+static void settle(int panel, mizzencord_number number) {
+    mizzencord_answer answer = mizzencord_commit(&stations[panel].board, number);
+    printf("panel %d settles %d/%d: %s\n", panel, number.panel, number.event, refusals[answer.refusal]);
+    if (answer.refusal != MIZZENCORD_ACCEPTED) return;
+    if (answer.mark != MIZZENCORD_REPLY_TO_NOBODY) print_reply(panel, number, answer.response, answer.mark);
+    spread_settlement(number);
+}
+
+/* Takes what is new on the bus; what a panel put there itself comes back to it and is refused. */
+static void listen(int panel) {
+    station *here = &stations[panel];
+    for (;;) {
+        mizzencord_receipt got = mizzencord_receive(&here->board, bus, bus_length, here->heard);
+        if (got.taken == 0) return; /* the end, or bytes that are no message */
+        mizzencord_number about = {bus[here->heard + 4], bus[here->heard + 5]};
+        here->heard += got.taken;
+        printf("panel %d receives %zu bytes about %d/%d: ", panel, got.taken, about.panel, about.event);
+        printf("%s\n", refusals[got.answer.refusal]);
+        if (got.answer.mark != MIZZENCORD_REPLY_TO_NOBODY) print_reply(panel, about, got.answer.response, got.answer.mark);
+    }
+}
+
+static void work(int panel) {
+    mizzencord_due due = mizzencord_run_due(&stations[panel].board);
+    printf("panel %d: %" PRIu32 " undone, %" PRIu32 " executed\n", panel, due.undos, due.executions);
+    for (size_t i = 0; i < due.count; i++) print_reply(panel, due.replies[i].number, due.replies[i].response, due.replies[i].mark);
+}
+
+static void print_order(int panel) {
+    const mizzencord_panel *board = &stations[panel].board;
+    printf("panel %d, %zu of %zu settled:", panel, mizzencord_committed(board), mizzencord_requests(board));
+    for (size_t place = 1; place <= mizzencord_requests(board); place++) {
+        mizzencord_number number = mizzencord_at_place(board, place).request.number;
+        printf(" %d/%d", number.panel, number.event);
+    }
+    printf("\n");
+}
+
+/* Prints the registers that are not 0 on both panels, and says whether all are equal. */
+static bool print_registers(void) {
+    bool equal = true;
+    for (uint8_t k = 0; k < MIZZENCORD_REGISTERS; k++) {
+        uint32_t one = mizzencord_register(&stations[0].board, k).value, other = mizzencord_register(&stations[1].board, k).value;
+        if (one != 0 || other != 0) printf("register %d: %" PRIu32 " and %" PRIu32 "\n", k, one, other);
+        equal = equal && one == other;
+    }
+    printf("the registers are %s\n", equal ? "equal" : "different");
+    return equal;
+}
+
+static void both(void (*act)(int panel)) {
+    for (int panel = 0; panel < PANELS; panel++) act(panel);
+}
+
+int main(void) {
+    for (int panel = 0; panel < PANELS; panel++) {
+        if (mizzencord_fresh(&stations[panel].board, PANELS, (uint8_t)panel) != MIZZENCORD_ACCEPTED) return 2;
+    }
+    make(0, (mizzencord_operation){MIZZENCORD_ADD, TRAYS, 0, 6}, false, 10);
+    make(1, (mizzencord_operation){MIZZENCORD_CLAIM, DECK, 0, 2}, true, 12);
+    make(0, (mizzencord_operation){MIZZENCORD_CLAIM, DECK, 0, 1}, true, 11);
+    both(work);
+    both(listen);
+    both(work);
+    settle(1, (mizzencord_number){1, 1});
+    make(1, (mizzencord_operation){MIZZENCORD_MOVE, TRAYS, OUT, 2}, false, 13);
+    both(listen);
+    both(work);
+    settle(0, (mizzencord_number){0, 2});
+    both(listen);
+    both(work);
+    settle(1, (mizzencord_number){1, 1});
+    make(0, (mizzencord_operation){MIZZENCORD_CLAIM, DECK, 0, 0}, true, 14);
+    both(print_order);
+    return print_registers() ? 0 : 1;
+}
