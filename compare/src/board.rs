@@ -1,9 +1,11 @@
 //! What is compared of the functions over bytes alone, as docs/CALLS.md
 //! describes them.
 
-use crate::header::Ran;
+use crate::calls;
+use crate::header::*;
 use crate::printout::printout;
-use crate::{calls, fields};
+use crate::request;
+use crate::wire::{self, Parsed};
 
 /// The least bytes to lend for a printout.
 pub const MOST_PRINTED: usize = 438_473;
@@ -11,8 +13,8 @@ pub const MOST_PRINTED: usize = 438_473;
 pub trait Board {
     fn print(&self, input: &[u8], out: &mut [u8]) -> usize;
     fn run(&self, calls: &[u8], out: &mut [u8]) -> Ran;
-    fn read(&self, bytes: &[u8], at: usize, out: &mut [u8]) -> usize;
-    fn write(&self, fields: &[u8], out: &mut [u8]) -> usize;
+    fn read(&self, bytes: &[u8], at: usize) -> Reading;
+    fn write(&self, message: &Message, out: &mut [u8]) -> Written;
 }
 
 /// The implementation of this crate.
@@ -32,11 +34,40 @@ impl Board for Handwritten {
         calls::run(calls, out)
     }
 
-    fn read(&self, bytes: &[u8], at: usize, out: &mut [u8]) -> usize {
-        fields::read(bytes, at, out)
+    fn read(&self, bytes: &[u8], at: usize) -> Reading {
+        match wire::parse(bytes, at) {
+            Parsed::Message(message, taken) => Reading { refusal: 0, taken, message: (&message).into() },
+            Parsed::End => Reading::default(),
+            Parsed::Refused(refusal) => Reading { refusal, ..Reading::default() },
+        }
     }
 
-    fn write(&self, fields: &[u8], out: &mut [u8]) -> usize {
-        fields::write(fields, out)
+    fn write(&self, message: &Message, out: &mut [u8]) -> Written {
+        let (refusal, bytes) = wire::write(&message.into(), out);
+        Written { refusal, bytes }
+    }
+}
+
+/// A settlement has only its number.
+impl From<&wire::Message> for Message {
+    fn from(message: &wire::Message) -> Message {
+        match message {
+            wire::Message::Request(request) => Message { settles: 0, request: request.into() },
+            wire::Message::Settlement(number) => {
+                let request = request::Request { number: *number, ..request::Request::default() };
+                Message { settles: 1, request: (&request).into() }
+            }
+        }
+    }
+}
+
+/// Of a settlement only the number is looked at.
+impl From<&Message> for wire::Message {
+    fn from(message: &Message) -> wire::Message {
+        if message.settles != 0 {
+            wire::Message::Settlement(message.request.number.into())
+        } else {
+            wire::Message::Request((&message.request).into())
+        }
     }
 }

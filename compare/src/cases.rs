@@ -129,38 +129,24 @@ pub fn readings(seed: u64) -> Vec<Case> {
         places.push(places[places.len() - 1] + taken);
     }
     places.extend([random.below(bytes.len() + 2), random.below(bytes.len() + 2), usize::MAX]);
-    let read = |at| Case {
-        function: Function::Read,
-        bytes: bytes.clone(),
-        at,
-        room: room(&mut random, FIELDS_SIZE),
-    };
+    let read = |at| Case { function: Function::Read, bytes: bytes.clone(), at, room: 0 };
     places.into_iter().map(read).collect()
 }
 
-/// Writing the message of some fields, which may be damaged or cut short.
+/// Writing the message of some fields, which may be damaged.
 pub fn writing(seed: u64) -> Case {
     let mut random = Random::new(seed);
     let mut bytes = vec![0; FIELDS_SIZE];
     if random.percent(10) {
         bytes.fill_with(|| random.byte());
     } else {
-        fields::put(&message(&mut random), &mut bytes);
+        bytes.copy_from_slice(&fields::of_message(&(&message(&mut random)).into()));
     }
     if random.percent(10) {
         let at = random.below(bytes.len());
         bytes[at] = random.byte();
     }
-    if random.percent(5) {
-        bytes.truncate(random.below(bytes.len() + 1));
-    }
-    Case { function: Function::Write, bytes, at: 0, room: room(&mut random, FIELDS_SIZE) }
-}
-
-fn room(random: &mut Random, enough: usize) -> usize {
-    if random.percent(10) {
-        random.below(enough)
-    } else {
-        enough + random.below(8)
-    }
+    let enough = wire::STRONG_LENGTH;
+    let room = if random.percent(10) { random.below(enough) } else { enough + random.below(8) };
+    Case { function: Function::Write, bytes, at: 0, room }
 }

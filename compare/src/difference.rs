@@ -5,7 +5,8 @@ use std::fmt::Write;
 
 use crate::board::Board;
 use crate::calls::{self, ANSWER_SIZE, CALLS_AT, CALL_SIZE};
-use crate::header::Ran;
+use crate::fields;
+use crate::header::{Message, Ran, Reading, Written};
 use crate::wire::{self, Parsed};
 
 /// What the lent bytes hold beforehand, so that bytes left alone show.
@@ -32,8 +33,9 @@ impl Function {
     }
 }
 
-/// One call of one function: its bytes, the place in them that a message is
-/// read at, and how many bytes are lent for the result.
+/// One call of one function: its bytes, which for the writer are the fields of a
+/// message; the place in them that a message is read at; and how many bytes are
+/// lent for the result.
 #[derive(Clone, Debug, PartialEq, Eq)]
 pub struct Case {
     pub function: Function,
@@ -42,12 +44,13 @@ pub struct Case {
     pub room: usize,
 }
 
-/// A board's result with the lent bytes after it; the refusal beside it is that
-/// of a list of calls.
+/// A board's result with the lent bytes after it, the refusal beside it and the
+/// message that was read.
 #[derive(Default, PartialEq, Eq)]
 pub struct Outcome {
     pub refusal: u8,
     pub result: usize,
+    pub message: Message,
     pub out: Vec<u8>,
 }
 
@@ -57,14 +60,22 @@ impl Outcome {
         self.out.clear();
         self.out.resize(case.room, FILL);
         let out = &mut self.out[..];
+        self.message = Message::default();
         (self.refusal, self.result) = match case.function {
             Function::Print => (0, board.print(&case.bytes, out)),
             Function::Run => {
                 let Ran { refusal, ran } = board.run(&case.bytes, out);
                 (refusal, ran)
             }
-            Function::Read => (0, board.read(&case.bytes, case.at, out)),
-            Function::Write => (0, board.write(&case.bytes, out)),
+            Function::Read => {
+                let Reading { refusal, taken, message } = board.read(&case.bytes, case.at);
+                self.message = message;
+                (refusal, taken)
+            }
+            Function::Write => {
+                let Written { refusal, bytes } = board.write(&fields::message(&case.bytes), out);
+                (refusal, bytes)
+            }
         };
     }
 
@@ -138,8 +149,9 @@ impl Case {
             Function::Print => self.show_lines(&mut text, names, &outcomes),
             Function::Read | Function::Write => {
                 let _ = writeln!(text, "bytes {:02x?} at {}", self.bytes, self.at);
-                for (name, outcome) in names.iter().zip(&outcomes) {
-                    let _ = writeln!(text, "{name}: {} {:02x?}", outcome.result, outcome.out);
+                for (name, Outcome { refusal, result, message, out }) in names.iter().zip(&outcomes) {
+                    let _ =
+                        writeln!(text, "{name}: refusal {refusal}, {result} bytes {message:?} {out:02x?}");
                 }
             }
         }

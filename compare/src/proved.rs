@@ -25,14 +25,8 @@ extern "C" {
     fn mizzencord_owed(panel: *const u64) -> usize;
     fn mizzencord_at_place(panel: *const u64, place: usize) -> Placed;
 
-    fn mizzencord_read(
-        bytes: *const u8,
-        length: usize,
-        at: usize,
-        fields: *mut u8,
-        fields_length: usize,
-    ) -> usize;
-    fn mizzencord_write(fields: *const u8, fields_length: usize, out: *mut u8, out_length: usize) -> usize;
+    fn mizzencord_read(bytes: *const u8, length: usize, at: usize) -> Reading;
+    fn mizzencord_write(message: Message, out: *mut u8, length: usize) -> Written;
     fn mizzencord_print(input: *const u8, input_length: usize, out: *mut u8, out_length: usize) -> usize;
     fn mizzencord_run(calls: *const u8, calls_length: usize, out: *mut u8, out_length: usize) -> Ran;
 }
@@ -51,12 +45,12 @@ impl Board for Proved {
         unsafe { mizzencord_run(calls.as_ptr(), calls.len(), out.as_mut_ptr(), out.len()) }
     }
 
-    fn read(&self, bytes: &[u8], at: usize, out: &mut [u8]) -> usize {
-        unsafe { mizzencord_read(bytes.as_ptr(), bytes.len(), at, out.as_mut_ptr(), out.len()) }
+    fn read(&self, bytes: &[u8], at: usize) -> Reading {
+        unsafe { mizzencord_read(bytes.as_ptr(), bytes.len(), at) }
     }
 
-    fn write(&self, fields: &[u8], out: &mut [u8]) -> usize {
-        unsafe { mizzencord_write(fields.as_ptr(), fields.len(), out.as_mut_ptr(), out.len()) }
+    fn write(&self, message: &Message, out: &mut [u8]) -> Written {
+        unsafe { mizzencord_write(*message, out.as_mut_ptr(), out.len()) }
     }
 }
 

@@ -28,30 +28,12 @@ static const char *const refusals[] = {
 };
 static const char *const marks[] = {"unawaited", "weak", "tentative", "stable"};
 
-static void put(uint8_t *at, uint64_t value, size_t bytes) {
-    for (size_t i = 0; i < bytes; i++) at[i] = (uint8_t)(value >> (8 * i));
-}
-
-/* Puts the message of these fields at the end of the bus. */
-static void spread(const uint8_t fields[MIZZENCORD_FIELDS]) {
-    size_t written = mizzencord_write(fields, MIZZENCORD_FIELDS, bus + bus_length, sizeof bus - bus_length);
-    if (written >= 256) printf("the bus: %s\n", refusals[written / 256]);
-    else bus_length += written;
-}
-
-static void spread_request(const mizzencord_request *request) {
-    const mizzencord_operation *asked = &request->operation;
-    uint8_t fields[MIZZENCORD_FIELDS] = {
-        [2] = request->strong, [4] = request->number.panel, [5] = request->number.event,
-        [10] = asked->code, [11] = asked->r, [12] = asked->q};
-    put(fields + 6, request->clock, 4);
-    put(fields + 14, asked->amount, 4);
-    for (size_t p = 0; p < MIZZENCORD_MOST_PANELS; p++) put(fields + 18 + 8 * p, request->context[p], 8);
-    spread(fields);
-}
-
-static void spread_settlement(mizzencord_number number) {
-    spread((uint8_t[MIZZENCORD_FIELDS]){[0] = 1, [4] = number.panel, [5] = number.event});
+/* Puts a message at the end of the bus. */
+static void spread(bool settles, mizzencord_request request) {
+    mizzencord_message message = {settles, request};
+    mizzencord_written written = mizzencord_write(message, bus + bus_length, sizeof bus - bus_length);
+    if (written.refusal != MIZZENCORD_ACCEPTED) printf("the bus: %s\n", refusals[written.refusal]);
+    bus_length += written.bytes;
 }
 
 static void print_reply(int panel, mizzencord_number number, uint32_t response, uint8_t mark) {
@@ -67,7 +49,7 @@ static void make(int panel, mizzencord_operation operation, bool strong, uint32_
     }
     mizzencord_number number = answer.request.number;
     printf("panel %d makes %d/%d, %s\n", panel, number.panel, number.event, strong ? "strong" : "weak");
-    spread_request(&answer.request);
+    spread(false, answer.request);
 }
 
 static void settle(int panel, mizzencord_number number) {
@@ -75,19 +57,19 @@ static void settle(int panel, mizzencord_number number) {
     printf("panel %d settles %d/%d: %s\n", panel, number.panel, number.event, refusals[answer.refusal]);
     if (answer.refusal != MIZZENCORD_ACCEPTED) return;
     if (answer.mark != MIZZENCORD_REPLY_TO_NOBODY) print_reply(panel, number, answer.response, answer.mark);
-    spread_settlement(number);
+    spread(true, (mizzencord_request){.number = number});
 }
 
 /* Takes what is new on the bus; what a panel put there itself comes back to it and is refused. */
 static void listen(int panel) {
     station *here = &stations[panel];
     for (;;) {
+        mizzencord_number about = mizzencord_read(bus, bus_length, here->heard).message.request.number;
         mizzencord_receipt got = mizzencord_receive(&here->board, bus, bus_length, here->heard);
         if (got.taken == 0) return; /* the end, or bytes that are no message */
-        mizzencord_number about = {bus[here->heard + 4], bus[here->heard + 5]};
         here->heard += got.taken;
-        printf("panel %d receives %zu bytes about %d/%d: ", panel, got.taken, about.panel, about.event);
-        printf("%s\n", refusals[got.answer.refusal]);
+        printf("panel %d receives %zu bytes about %d/%d: %s\n", panel, got.taken, about.panel, about.event,
+               refusals[got.answer.refusal]);
         if (got.answer.mark != MIZZENCORD_REPLY_TO_NOBODY) print_reply(panel, about, got.answer.response, got.answer.mark);
     }
 }

@@ -18,7 +18,7 @@ use mizzencord_compare::panel_test::{self, Told};
 use mizzencord_compare::progress::{progress, progress_ends};
 use mizzencord_compare::proved::{Panel, Proved};
 use mizzencord_compare::random::Random;
-use mizzencord_compare::refusal::{BAD_SHOP, NO_ROOM, REFUSALS};
+use mizzencord_compare::refusal::{ACCEPTED, BAD_SHOP, NO_ROOM, REFUSALS};
 use mizzencord_compare::shop_test::{Difference, ShopTest};
 
 const SEED: u64 = 1;
@@ -63,12 +63,11 @@ struct Tally {
 }
 
 impl Tally {
-    /// Counts a result: bytes, or 256 times the refusal.
-    fn count(&mut self, result: usize) {
-        match result {
-            0 => self.ended += 1,
-            1..256 => self.accepted += 1,
-            _ => self.refused[result / 256] += 1,
+    fn count(&mut self, outcome: &Outcome) {
+        match (outcome.refusal, outcome.result) {
+            (ACCEPTED, 0) => self.ended += 1,
+            (ACCEPTED, _) => self.accepted += 1,
+            (refusal, _) => self.refused[refusal as usize] += 1,
         }
     }
 
@@ -122,8 +121,8 @@ impl Comparison {
                     counts.claims.count_messages(&case.bytes);
                 }
             }
-            Function::Read => counts.readings.count(result),
-            Function::Write => counts.writings.count(result),
+            Function::Read => counts.readings.count(&self.proved),
+            Function::Write => counts.writings.count(&self.proved),
         }
     }
 }

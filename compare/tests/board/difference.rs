@@ -5,9 +5,10 @@ use mizzencord_compare::board::{Board, Handwritten};
 use mizzencord_compare::calls::{self, ANSWER_SIZE};
 use mizzencord_compare::cases;
 use mizzencord_compare::difference::{differ, Case, Function};
-use mizzencord_compare::header::Ran;
+use mizzencord_compare::fields;
+use mizzencord_compare::header::{self, Message, Ran, Reading, Written};
 use mizzencord_compare::panel::{MARK_STABLE, MARK_TENTATIVE};
-use mizzencord_compare::random::Call;
+use mizzencord_compare::random::{self, Call};
 use mizzencord_compare::refusal::{BAD_CONTEXT, BAD_SHOP, CUT_SHORT, NO_ROOM};
 use mizzencord_compare::request::*;
 
@@ -35,12 +36,12 @@ impl Board for Faulty {
         ran
     }
 
-    fn read(&self, bytes: &[u8], at: usize, out: &mut [u8]) -> usize {
-        Handwritten.read(bytes, at, out)
+    fn read(&self, bytes: &[u8], at: usize) -> Reading {
+        Handwritten.read(bytes, at)
     }
 
-    fn write(&self, fields: &[u8], out: &mut [u8]) -> usize {
-        Handwritten.write(fields, out)
+    fn write(&self, message: &Message, out: &mut [u8]) -> Written {
+        Handwritten.write(message, out)
     }
 }
 
@@ -181,23 +182,35 @@ fn all_due_steps_are_answered_by_their_count() {
 }
 
 #[test]
-fn fields_are_laid_out() {
-    let settlement = [6, 0, 3, 0, 5, 64];
-    let mut out = [9; 83];
-    assert_eq!(Handwritten.read(&settlement, 0, &mut out), 6);
-    assert_eq!(out[..6], [1, 0, 0, 0, 5, 64]);
-    assert!(out[6..82].iter().all(|byte| *byte == 0));
-    assert_eq!(out[82], 9);
-    assert_eq!(Handwritten.read(&settlement, 6, &mut out), 0);
-    assert_eq!(Handwritten.read(&settlement, 4, &mut out), 256 * CUT_SHORT as usize);
-    assert_eq!(Handwritten.read(&settlement, 0, &mut out[..81]), 256 * NO_ROOM as usize);
+fn messages_are_read_and_written_as_structs() {
+    let settlement = [6, 0, 3, 0, 5, 64, 9];
+    let number = header::Number { panel: 5, event: 64 };
+    let bare = header::Request { number, ..header::Request::default() };
+    let read = Reading { refusal: 0, taken: 6, message: Message { settles: 1, request: bare } };
+    assert_eq!(Handwritten.read(&settlement, 0), read);
+    assert_eq!(Handwritten.read(&settlement, 7), Reading::default());
+    assert_eq!(Handwritten.read(&settlement, 8), Reading::default());
+    let cut = Reading { refusal: CUT_SHORT, ..Reading::default() };
+    assert_eq!((Handwritten.read(&settlement, 4), Handwritten.read(&settlement[..5], 0)), (cut, cut));
+    // Of a settlement only the number is written, whatever else it has.
+    let full = header::Request { strong: 0, context: [7; 8], clock: 9, ..bare };
     let mut part = [9; 7];
-    assert_eq!(Handwritten.write(&out[..82], &mut part), 6);
-    assert_eq!(part, [6, 0, 3, 0, 5, 64, 9]);
-    assert_eq!(Handwritten.write(&out[..81], &mut part), 256 * CUT_SHORT as usize);
-    out[..4].fill(0);
-    out[81] = 1;
-    assert_eq!(Handwritten.write(&out[..82], &mut part), 256 * BAD_CONTEXT as usize);
-    out[3] = 1;
-    assert_eq!(Handwritten.write(&out[..82], &mut part), 256 * NO_ROOM as usize);
+    let written = Handwritten.write(&Message { settles: 1, request: full }, &mut part);
+    assert_eq!((written, part), (Written { refusal: 0, bytes: 6 }, settlement));
+    let refused = |refusal| Written { refusal, bytes: 0 };
+    let weak = Message { settles: 0, request: full };
+    assert_eq!(Handwritten.write(&weak, &mut part[..0]), refused(BAD_CONTEXT));
+    let strong = Message { settles: 0, request: header::Request { strong: 1, ..full } };
+    assert_eq!(Handwritten.write(&strong, &mut part), refused(NO_ROOM));
+    assert_eq!(part, settlement);
+}
+
+#[test]
+fn the_fields_of_a_case_come_back() {
+    for seed in 0..200 {
+        let message = Message::from(&random::message(&mut random::Random::new(seed)));
+        assert_eq!(fields::message(&fields::of_message(&message)), message);
+    }
+    assert_eq!(fields::message(&[]), Message::default());
+    assert_eq!(fields::message(&[0, 7, 1, 0, 3]).settles, 1);
 }

@@ -4,7 +4,7 @@
 use mizzencord_compare::account::Account;
 use mizzencord_compare::board::{Board, Handwritten, MOST_PRINTED};
 use mizzencord_compare::calls::{self, ANSWER_SIZE};
-use mizzencord_compare::header::Ran;
+use mizzencord_compare::header::{Message, Ran, Reading, Written};
 use mizzencord_compare::histories::Shop;
 use mizzencord_compare::panel::{Answer, MARK_STABLE};
 use mizzencord_compare::random::Call;
@@ -57,12 +57,12 @@ impl Board for Faulty {
         printed.len()
     }
 
-    fn read(&self, bytes: &[u8], at: usize, out: &mut [u8]) -> usize {
-        Handwritten.read(bytes, at, out)
+    fn read(&self, bytes: &[u8], at: usize) -> Reading {
+        Handwritten.read(bytes, at)
     }
 
-    fn write(&self, fields: &[u8], out: &mut [u8]) -> usize {
-        Handwritten.write(fields, out)
+    fn write(&self, message: &Message, out: &mut [u8]) -> Written {
+        Handwritten.write(message, out)
     }
 }
 
@@ -260,12 +260,12 @@ impl Board for Refusing {
         Handwritten.print(input, out)
     }
 
-    fn read(&self, bytes: &[u8], at: usize, out: &mut [u8]) -> usize {
-        Handwritten.read(bytes, at, out)
+    fn read(&self, bytes: &[u8], at: usize) -> Reading {
+        Handwritten.read(bytes, at)
     }
 
-    fn write(&self, fields: &[u8], out: &mut [u8]) -> usize {
-        Handwritten.write(fields, out)
+    fn write(&self, message: &Message, out: &mut [u8]) -> Written {
+        Handwritten.write(message, out)
     }
 }
 
