@@ -1,20 +1,33 @@
-# The time a request takes against the requests of a shift: gnuplot -e "data='FILE'; plot='FILE.svg'" compare/bench.gnuplot
-set terminal svg size 900,420 font 'sans-serif,12' background '#ffffff'
+# The time a request takes against the requests of a shift, and how the proved due step compares with the handwritten one:
+# gnuplot -e "data='FILE'; plot='FILE.svg'" compare/bench.gnuplot
+set terminal svg size 1200,420 font 'sans-serif,12' background '#ffffff'
 set output plot
-set multiplot layout 1,2
-set logscale xy
+larger(a, b) = a > b ? a : b
+smaller(a, b) = a < b ? a : b
+stats data index 0:3 using 2 name 'PROVED' nooutput
+stats data index 0:3 using 3 name 'HANDWRITTEN' nooutput
+stats data index 4 using 4 name 'RATIO' nooutput
+most = 1.1
+set multiplot layout 1,3
 set xtics (64, 128, 256, 512)
-set xrange [55:600]
-set yrange [0.05:5]
+set xrange [64:512]
 set xlabel 'requests of the shift'
+set grid
+set logscale xy
+set yrange [smaller(PROVED_min, HANDWRITTEN_min):larger(PROVED_max, HANDWRITTEN_max)]
 set ylabel 'microseconds a request'
 set key top left
-set grid
 do for [k = 0:1] {
     set title (k == 0 ? 'without settlements' : 'with settlements')
-    plot data index 2 * k using 1:2 skip 1 with linespoints lc 1 pt 5 title 'proved, in order', \
-         data index 2 * k + 1 using 1:2 skip 1 with linespoints lc 1 pt 7 dt 2 title 'proved, falling', \
-         data index 2 * k using 1:3 skip 1 with linespoints lc 2 pt 5 title 'handwritten, in order', \
-         data index 2 * k + 1 using 1:3 skip 1 with linespoints lc 2 pt 7 dt 2 title 'handwritten, falling'
+    plot data index 2 * k using 1:2 with linespoints lc 1 pt 5 title 'proved, in order', \
+         data index 2 * k + 1 using 1:2 with linespoints lc 1 pt 7 dt 2 title 'proved, falling', \
+         data index 2 * k using 1:3 with linespoints lc 2 pt 5 title 'handwritten, in order', \
+         data index 2 * k + 1 using 1:3 with linespoints lc 2 pt 7 dt 2 title 'handwritten, falling'
 }
+unset logscale y
+set title 'a due step'
+set ylabel 'proved to handwritten'
+set yrange [0:larger(RATIO_max, most)]
+set key bottom left
+plot data index 4 using 1:4 with linespoints lc 3 pt 5 title 'ratio', most with lines lc 0 dt 3 title 'at most'
 unset multiplot

@@ -54,7 +54,9 @@ pub enum Parsed {
     Refused(u8),
 }
 
-/// The message that starts at a place of a run of bytes.
+/// The message that starts at a place of a run of bytes. It is inlined, as the
+/// writer is, since a message that is handed on is copied whole.
+#[inline]
 pub fn parse(bytes: &[u8], place: usize) -> Parsed {
     if place >= bytes.len() {
         return Parsed::End;
@@ -94,6 +96,7 @@ pub fn parse(bytes: &[u8], place: usize) -> Parsed {
 
 /// Writes a message at the start of a part. Gives the refusal and the bytes
 /// written; bytes behind them are left alone, and all of them at a refusal.
+#[inline]
 pub fn write(message: &Message, part: &mut [u8]) -> (u8, usize) {
     if let Message::Request(request) = message {
         if !request.strong && !request.context.is_empty() {
