@@ -1,6 +1,6 @@
 # The time a request takes against the requests of a shift, and how the proved due step compares with the handwritten one:
 # gnuplot -e "data='FILE'; plot='FILE.svg'" compare/bench.gnuplot
-set terminal svg size 1200,420 font 'sans-serif,12' background '#ffffff'
+set terminal svg size 1200,460 font 'sans-serif,12' background '#ffffff'
 set output plot
 larger(a, b) = a > b ? a : b
 smaller(a, b) = a < b ? a : b
@@ -15,8 +15,9 @@ set xlabel 'requests of the shift'
 set grid
 set logscale xy
 set yrange [smaller(PROVED_min, HANDWRITTEN_min):larger(PROVED_max, HANDWRITTEN_max)]
+set ytics (0.1, 0.2, 0.5, 1, 2, 5)
 set ylabel 'microseconds a request'
-set key top left
+set key below
 do for [k = 0:1] {
     set title (k == 0 ? 'without settlements' : 'with settlements')
     plot data index 2 * k using 1:2 with linespoints lc 1 pt 5 title 'proved, in order', \
@@ -25,9 +26,9 @@ do for [k = 0:1] {
          data index 2 * k + 1 using 1:3 with linespoints lc 2 pt 7 dt 2 title 'handwritten, falling'
 }
 unset logscale y
+set ytics 0.2
 set title 'a due step'
 set ylabel 'proved to handwritten'
-set yrange [0:larger(RATIO_max, most)]
-set key bottom left
+set yrange [0:larger(RATIO_max, most) + 0.1]
 plot data index 4 using 1:4 with linespoints lc 3 pt 5 title 'ratio', most with lines lc 0 dt 3 title 'at most'
 unset multiplot
