@@ -13,3 +13,7 @@ undosCounted c steps = record { undos = c .undos + steps; executions = c .execut
 -- the counters after so many further executions (carry-outs)
 abbrev pub executionsCounted : Counters → ℕ → Counters
 executionsCounted c steps = record { undos = c .undos; executions = c .executions + steps }
+
+-- the counters after so many further steps of each
+abbrev pub counted : Counters → (undos executions : ℕ) → Counters
+counted c undos executions = executionsCounted (undosCounted c undos) executions

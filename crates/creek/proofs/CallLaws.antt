@@ -31,6 +31,15 @@ by-outcome P r c taken left = go (isAccepted (r .book) c) refl
     go true e = taken (eqb-true _ _ e)
     go false e = left
 
+-- an accepted call leaves what it makes of the replica, and has the answer of an accepted one
+pub step-accepted : (r : Replica) (c : Call) → isAccepted (r .book) c ≡ true → step r c ≡ accept r c
+unfolding step
+step-accepted r c e = rw e
+
+pub answer-accepted : (b : Book) (awaiting : Context) (c : Call) → isAccepted b c ≡ true → answerOf b awaiting c ≡ acceptedAnswer b awaiting c
+unfolding answerOf
+answer-accepted b awaiting c e = rw e
+
 -- ---- the refusal number of an answer
 
 -- a settlement that is accepted answers 0, with a stable reply or without

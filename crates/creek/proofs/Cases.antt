@@ -17,7 +17,7 @@ use Rattle.creek.specs.Book.{refusal, accepted}
 use Rattle.creek.specs.Replies.{responseOn, responseIn, executionMark, executionReply, undoReply, acceptedAnswer}
 use Rattle.creek.specs.Replies.{settlementReply, stableReplyDue, namedByRefusal, answerOf, acceptedAwaiting}
 use Rattle.creek.specs.Calls.{badShop, freshRefusal, fresh, accept, step}
-use Rattle.creek.specs.History.{run, settleDown}
+use Rattle.creek.specs.History.{run, afterDueSteps}
 use Rattle.creek.specs.Showing.{registerShown}
 use Rattle.creek.specs.Demand.{mostUndos}
 use Rattle.creek.specs.Examples.{Case, onRegisters, onBoard, answers, spreads, eventsAndClocks, numbers, driven}
@@ -31,7 +31,7 @@ unfolding cases standing worked afterWorked nineNineEight onRegisters onBoard an
     lackedWords difference subset before sameRequest badContext offBoard added claimed amountMoved moved firstHeld lowestHeld allSet
     allClaimed allClaimedResponse exec response replayOn replay lastEvent lastClock entered atLeast made committing committingFound invokeRefusal deliverRefusal commitRefusal registers
     adjusted undone undoRefusal executedNext executeRefusal refusal accepted acceptedAnswer settlementReply stableReplyDue
-    namedByRefusal answerOf acceptedAwaiting badShop fresh accept step run settleDown registerShown
+    namedByRefusal answerOf acceptedAwaiting badShop fresh accept step run afterDueSteps registerShown
 edge-cases = refl
 
 -- each reading chosen is what is computed
@@ -53,7 +53,7 @@ unfolding faults standing strongHeard twiceChanged overtaken numbers driven same
     offBoard added claimed amountMoved moved exec response replayOn replay lastEvent lastClock entered without atLeast made committing
     committingFound invokeRefusal deliverRefusal commitRefusal registers adjusted undone undoRefusal executedNext executeRefusal
     refusal accepted responseOn responseIn executionMark executionReply undoReply acceptedAnswer settlementReply stableReplyDue
-    namedByRefusal answerOf acceptedAwaiting badShop fresh accept step run settleDown registerShown
+    namedByRefusal answerOf acceptedAwaiting badShop fresh accept step run afterDueSteps registerShown
 faults-shown = refl
 
 -- demand 3's bound is reached, so no smaller one holds
@@ -61,5 +61,5 @@ pub bound-reached : map (λ (c : Case). c .computed) reaching ≡ map (λ (c : C
 unfolding reaching falling overtaking mostUndos driven sameNumber badNumber sameOperation badOperation sameWords sameContext
     allZero isEmpty namesFrom bit member join lackedWords difference subset before sameRequest badContext entered committing
     committingFound deliverRefusal commitRefusal adjusted undone undoRefusal executedNext executeRefusal refusal accepted badShop
-    fresh accept step settleDown
+    fresh accept step afterDueSteps
 bound-reached = refl

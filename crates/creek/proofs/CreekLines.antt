@@ -23,7 +23,6 @@ use Rattle.creek.specs.Execution.{Execution, adjusted}
 use Rattle.creek.proofs.ContextLaws.{member-without}
 use Rattle.lists.proofs.ListLaws.{first-ordered, rest-ordered, one-true, one-false, one-zero, count-append, count-implies}
 use Rattle.lists.proofs.ListLaws.{count-weaker, keep-append}
-use Rattle.creek.proofs.ContextLaws.{member-without}
 use Rattle.lists.proofs.ListLaws.{keep-nothing, keep-everything, commonStart-most, commonStart-both, commonStart-longest}
 
 -- ---- insertion: what is before the request, the request, what comes after it [37 to 39]

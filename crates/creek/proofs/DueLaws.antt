@@ -16,10 +16,10 @@ use Rattle.creek.specs.Plan.{order}
 use Rattle.creek.specs.Execution.{Execution, operations, registers, isIdle}
 use Rattle.creek.specs.Book.{Call, undo, execute, Book, refusal, isAccepted, accepted}
 use Rattle.creek.specs.Calls.{Replica, accept, step}
-use Rattle.creek.specs.History.{run, due, settleDown, dueCalls}
+use Rattle.creek.specs.History.{run, dueCall, afterDueSteps, idled, dueCalls}
 use Rattle.creek.specs.Showing.{undosShown, executionsShown, owedShown}
 use Rattle.creek.specs.Sound.{Sound}
-use Rattle.creek.proofs.CallLaws.{step-book}
+use Rattle.creek.proofs.CallLaws.{step-accepted, step-book}
 use Rattle.creek.proofs.ExecutionLaws.{undone-todo, undone-rollback, executed-rollback, executes, undo-due}
 use Rattle.creek.proofs.ExecutionLaws.{execute-due, idle-owed, busy-owed, idle-board}
 use Rattle.creek.proofs.SoundLaws.{step-sound}
@@ -36,7 +36,7 @@ record DoesOne (r : Replica) (c : Call) : Type 0 where
   totals : SameTotals r (accept r c)
 
 -- the due step does while something is owed
-due-step : (r : Replica) → 1 ≤ owedShown r → DoesOne r (due (r .book .execution))
+due-step : (r : Replica) → 1 ≤ owedShown r → DoesOne r (dueCall (r .book))
 unfolding refusal accept accepted
 due-step r h = go (isNil (e .rollback)) refl
   where
@@ -63,99 +63,95 @@ due-step r h = go (isNil (e .rollback)) refl
           totals = record { undos = omega (arith, rollback); executions = omega (arith, todo) };
         }
 
-pub step-accepted : (r : Replica) (c : Call) → refusal (r .book) c ≡ refused.accepted → step r c ≡ accept r c
-unfolding step
-step-accepted r c e = rw (eq-eqb _ _ e)
-
 -- a due step leaves the plan as it was
-pub due-plan : (r : Replica) → (step r (due (r .book .execution))) .book .plan ≡ r .book .plan
+pub due-plan : (r : Replica) → (step r (dueCall (r .book))) .book .plan ≡ r .book .plan
 unfolding step accept accepted
-due-plan r = go (isNil (r .book .execution .rollback)) (isAccepted (r .book) (due (r .book .execution)))
+due-plan r = go (isNil (r .book .execution .rollback)) (isAccepted (r .book) (dueCall (r .book)))
   where
     go : (u v : Bool) → (cond v (accept r (cond u execute undo)) r) .book .plan ≡ r .book .plan
     go true true = refl
     go false true = refl
     go u false = refl
 
-pub later-plan : (k : ℕ) (r : Replica) → (settleDown k r) .book .plan ≡ r .book .plan
-unfolding settleDown
+pub later-plan : (k : ℕ) (r : Replica) → (afterDueSteps k r) .book .plan ≡ r .book .plan
+unfolding afterDueSteps
 later-plan zero r = refl
-later-plan (suc k) r = later-plan k (step r (due (r .book .execution))) ∙ due-plan r
+later-plan (suc k) r = later-plan k (step r (dueCall (r .book))) ∙ due-plan r
 
-pub later-owed : (k : ℕ) (r : Replica) → k ≤ owedShown r → owedShown (settleDown k r) + k ≡ owedShown r
-unfolding settleDown
+pub later-owed : (k : ℕ) (r : Replica) → k ≤ owedShown r → owedShown (afterDueSteps k r) + k ≡ owedShown r
+unfolding afterDueSteps
 later-owed zero r h = omega arith
 later-owed (suc k) r h =
     let d = due-step r (omega arith) in
-    let o = ap owedShown (step-accepted r (due (r .book .execution)) (d .taken)) in
-    omega (arith, later-owed k (step r (due (r .book .execution))) (omega (arith, d .less)), d .less)
+    let o = ap owedShown (step-accepted r (dueCall (r .book)) (eq-eqb _ _ (d .taken))) in
+    omega (arith, later-owed k (step r (dueCall (r .book))) (omega (arith, d .less)), d .less)
 
-later-totals : (k : ℕ) (r : Replica) → k ≤ owedShown r → SameTotals r (settleDown k r)
-unfolding settleDown
+later-totals : (k : ℕ) (r : Replica) → k ≤ owedShown r → SameTotals r (afterDueSteps k r)
+unfolding afterDueSteps
 later-totals zero r h = record { undos = refl; executions = refl }
 later-totals (suc k) r h =
     let d = due-step r (omega arith) in
-    let same = step-accepted r (due (r .book .execution)) (d .taken) in
-    let now : SameTotals r (step r (due (r .book .execution))) = rw same (d .totals) in
-    let later = later-totals k (step r (due (r .book .execution))) (omega (arith, d .less, ap owedShown same)) in
+    let same = step-accepted r (dueCall (r .book)) (eq-eqb _ _ (d .taken)) in
+    let now : SameTotals r (step r (dueCall (r .book))) = rw same (d .totals) in
+    let later = later-totals k (step r (dueCall (r .book))) (omega (arith, d .less, ap owedShown same)) in
     record { undos = later .undos ∙ now .undos; executions = later .executions ∙ now .executions }
 
-pub later-sound : (k : ℕ) (r : Replica) → Sound r → Sound (settleDown k r)
-unfolding settleDown
+pub later-sound : (k : ℕ) (r : Replica) → Sound r → Sound (afterDueSteps k r)
+unfolding afterDueSteps
 later-sound zero r i = i
-later-sound (suc k) r i = later-sound k (step r (due (r .book .execution))) (step-sound r (due (r .book .execution)) i)
+later-sound (suc k) r i = later-sound k (step r (dueCall (r .book))) (step-sound r (dueCall (r .book)) i)
 
 positive : (n : ℕ) → (n ≡ 0 → ⊥) → 1 ≤ n
 positive zero h = absurd (h refl)
 positive (suc n) h = omega arith
 
 module _ (r : Replica) (i : Sound r) where
-  pub due-accepted : (k : ℕ) → k < owedShown r → refusal (settleDown k r .book) (due (settleDown k r .book .execution)) ≡ refused.accepted
-  due-accepted k h = due-step (settleDown k r) (omega (arith, later-owed k r (omega arith))) .taken
+  pub due-accepted : (k : ℕ) → k < owedShown r → refusal (afterDueSteps k r .book) (dueCall (afterDueSteps k r .book)) ≡ refused.accepted
+  due-accepted k h = due-step (afterDueSteps k r) (omega (arith, later-owed k r (omega arith))) .taken
 
-  pub idle-exactly : (k : ℕ) → k ≤ owedShown r → isIdle (settleDown k r .book .execution) ≡ eqb k (owedShown r)
+  pub idle-exactly : (k : ℕ) → k ≤ owedShown r → isIdle (afterDueSteps k r .book .execution) ≡ eqb k (owedShown r)
   idle-exactly k h = go (eqb k (owedShown r)) refl
     where
-      left : owedShown (settleDown k r) + k ≡ owedShown r
+      left : owedShown (afterDueSteps k r) + k ≡ owedShown r
       left = later-owed k r h
 
-      go : (v : Bool) → eqb k (owedShown r) ≡ v → isIdle (settleDown k r .book .execution) ≡ v
-      go true e = idle-owed (settleDown k r .book .execution) (omega (arith, left, eqb-true k (owedShown r) e))
+      go : (v : Bool) → eqb k (owedShown r) ≡ v → isIdle (afterDueSteps k r .book .execution) ≡ v
+      go true e = idle-owed (afterDueSteps k r .book .execution) (omega (arith, left, eqb-true k (owedShown r) e))
       go false e =
-          busy-owed (settleDown k r .book .execution)
-          (positive (owedShown (settleDown k r)) (λ none. eqb-false k (owedShown r) e (omega (arith, left))))
+          busy-owed (afterDueSteps k r .book .execution)
+          (positive (owedShown (afterDueSteps k r)) (λ none. eqb-false k (owedShown r) e (omega (arith, left))))
 
-  pub replayed : registers (settleDown (owedShown r) r .book .execution)
+  pub replayed : registers (idled r .book .execution)
       ≡ replay (operations (r .book .plan .committed ++ r .book .plan .tentative))
   unfolding registers
   replayed =
       let last = later-owed (owedShown r) r (omega arith) in
-      let on-board = idle-board (settleDown (owedShown r) r .book .execution) (later-sound (owedShown r) r i .follows) (omega arith) in
+      let on-board = idle-board (idled r .book .execution) (later-sound (owedShown r) r i .follows) (omega arith) in
       ap (λ (l : List Request). replay (operations l)) (on-board ∙ ap order (later-plan (owedShown r) r))
 
 -- as many due steps as are owed do each undo and each execution that is owed
 module _ (r : Replica) where
-  none-left : owedShown (settleDown (owedShown r) r) ≡ 0
+  none-left : owedShown (idled r) ≡ 0
   none-left = omega (arith, later-owed (owedShown r) r (omega arith))
 
-  totals : SameTotals r (settleDown (owedShown r) r)
+  totals : SameTotals r (idled r)
   totals = later-totals (owedShown r) r (omega arith)
 
-  pub undos-done : undosShown (settleDown (owedShown r) r) ≡ undosShown r + length (r .book .execution .rollback)
+  pub undos-done : undosShown (idled r) ≡ undosShown r + length (r .book .execution .rollback)
   undos-done = omega (arith, none-left, totals .undos)
 
-  pub executions-done : executionsShown (settleDown (owedShown r) r) ≡ executionsShown r + length (r .book .execution .todo)
+  pub executions-done : executionsShown (idled r) ≡ executionsShown r + length (r .book .execution .todo)
   executions-done = omega (arith, none-left, totals .executions)
 
 -- ---- so many due steps as a list of calls
 
 pub due-calls : (k : ℕ) (r : Replica)
-    → dueCalls (suc k) (r .book) ≡ due (r .book .execution) ∷ dueCalls k (step r (due (r .book .execution)) .book)
+    → dueCalls (suc k) (r .book) ≡ dueCall (r .book) ∷ dueCalls k (step r (dueCall (r .book)) .book)
 unfolding dueCalls
 due-calls k r =
-    ap (λ (b : Book). due (r .book .execution) ∷ dueCalls k b) (sym (step-book r (due (r .book .execution))))
+    ap (λ (b : Book). dueCall (r .book) ∷ dueCalls k b) (sym (step-book r (dueCall (r .book))))
 
-pub run-due : (k : ℕ) (r : Replica) → run r (dueCalls k (r .book)) ≡ settleDown k r
-unfolding run dueCalls settleDown
+pub run-due : (k : ℕ) (r : Replica) → run r (dueCalls k (r .book)) ≡ afterDueSteps k r
+unfolding run dueCalls afterDueSteps
 run-due zero r = refl
-run-due (suc k) r = ap (run r) (due-calls k r) ∙ run-due k (step r (due (r .book .execution)))
+run-due (suc k) r = ap (run r) (due-calls k r) ∙ run-due k (step r (dueCall (r .book)))

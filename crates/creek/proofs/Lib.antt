@@ -5,6 +5,7 @@ pub mod PlanLaws
 pub mod LookupLaws
 pub mod ExecutionLaws
 pub mod CallLaws
+pub mod AwaitingLaws
 pub mod RefusalLaws
 pub mod SoundLaws
 pub mod StackLaws

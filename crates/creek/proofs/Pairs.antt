@@ -20,7 +20,7 @@ use Rattle.creek.specs.Book.{refusal, accepted, noted}
 use Rattle.creek.specs.Replies.{settlementReply, stableReplyDue, undoReply, executionMark, executionReply, acceptedAnswer}
 use Rattle.creek.specs.Replies.{namedByRefusal, answerOf, acceptedAwaiting, responseOn, responseIn}
 use Rattle.creek.specs.Calls.{badShop, fresh, accept, step}
-use Rattle.creek.specs.History.{run, settleDown}
+use Rattle.creek.specs.History.{run, afterDueSteps}
 use Rattle.creek.specs.Showing.{registerShown}
 use Rattle.creek.specs.Examples.{Case, answers, numbers, driven}
 use Rattle.creek.specs.Agreement.{inClockOrder, committingInTurn, standingOrder, SameRequests, gathered}
@@ -34,7 +34,7 @@ unfolding pairs placesIn answers numbers driven sameNumber badNumber sameOperati
     replayOn replay lastEvent lastClock entered without atLeast made committing committingFound invokeRefusal deliverRefusal
     commitRefusal registers adjusted undone undoRefusal executedNext executeRefusal refusal accepted settlementReply stableReplyDue
     undoReply executionMark executionReply acceptedAnswer namedByRefusal answerOf acceptedAwaiting badShop fresh accept step run
-    settleDown registerShown
+    afterDueSteps registerShown
 pairs-told = refl
 
 -- ---- the suppositions

@@ -8,6 +8,8 @@ use mathlib.Core.Option.{some}
 use lib.ListN.{length, length-append}
 use lib.Dec.{leb, ltb}
 use borrow.Author.Tests.{leb-true, ltb-true, not-false}
+use Rattle.counters.specs.declared.Counters.{Counters}
+use Rattle.counters.specs.Counted.{counted}
 use Rattle.request.specs.declared.Request.{Request}
 use Rattle.numbers.specs.Numbers.{mostPanels}
 use Rattle.sets.specs.Sets.{subset}
@@ -18,7 +20,7 @@ use Rattle.lists.specs.Lists.{count, find, nil}
 use Rattle.creek.specs.Plan.{Plan, order, hasNumber, entered, made, committing}
 use Rattle.creek.specs.Execution.{Execution, nothingExecuted, adjusted, undone, undoRefusal, executedNext, executeRefusal}
 use Rattle.creek.specs.Book.{Call, invoke, deliver, commit, undo, execute, Book, emptyBook, planned, refusal, accepted}
-use Rattle.creek.specs.Calls.{Counters, counted, Replica, badShop, replicaOf, fresh, accept, step}
+use Rattle.creek.specs.Calls.{Replica, badShop, replicaOf, fresh, accept, step}
 use Rattle.creek.specs.History.{run}
 use Rattle.creek.specs.Sound.{SoundPlan, WithinBound, SoundBook, Sound}
 use Rattle.creek.proofs.CallLaws.{by-outcome}

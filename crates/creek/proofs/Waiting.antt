@@ -13,7 +13,7 @@ use Rattle.sets.specs.Sets.{member, join, leave}
 use Rattle.request.specs.Refusal as refused
 use Rattle.lists.proofs.BoolLaws.{true-not-false, both-true, both, neither, first-false, second-false}
 use Rattle.numbers.proofs.NumberLaws.{good-number, sameNumber-sound, sameNumber-self}
-use Rattle.sets.proofs.SetLaws.{member-join, join-length, member-leave, leave-length}
+use Rattle.sets.proofs.SetLaws.{member-join, join-length}
 use Rattle.creek.specs.declared.Invocation.{Invocation}
 use Rattle.lists.specs.Lists.{one, count, keep}
 use Rattle.creek.specs.Plan.{Plan, order, hasNumber, isOf, entered, made, stays, committing, committingNumber, isCommitted}
@@ -26,7 +26,7 @@ use Rattle.creek.specs.History.{run}
 use Rattle.creek.specs.Sound.{Sound}
 use Rattle.creek.specs.StableReply.{repliedTo}
 use Rattle.creek.specs.Waiting.{LastReply, TentativeReply, strongUnawaited, SoundAwaiting}
-use Rattle.creek.proofs.CallLaws.{by-outcome}
+use Rattle.creek.proofs.AwaitingLaws.{leave-other, awaiting-length, awaiting-other, awaiting-less, awaiting-ends}
 use Rattle.lists.proofs.ListLaws.{one-true, one-false, count-append, count-implies, count-either, count-weaker, passes-count}
 use Rattle.creek.proofs.CallLaws.{by-outcome}
 use Rattle.lists.proofs.ListLaws.{none-passes-count, count-keep, found-counts}
@@ -35,46 +35,6 @@ use Rattle.creek.proofs.PlanLaws.{New, made-new, Commits, commits, ente
 use Rattle.creek.proofs.PlanLaws.{stays-other, committing-count}
 use Rattle.creek.proofs.LookupLaws.{not-own}
 use Rattle.creek.proofs.SoundLaws.{step-sound, fresh-sound, reached-sound}
-
--- ---- a set of numbers after a reply
-
--- nobody but n leaves
-leave-other : (s : Context) (n m : Number) → sameNumber n m ≡ false → member (leave s n) m ≡ member s m
-leave-other s n m e = member-leave s n m ∙ ap (λ (b : Bool). member s m && not b) e ∙ kept (member s m)
-  where
-    kept : (b : Bool) → b && true ≡ b
-    kept true = refl
-    kept false = refl
-
-module _ (awaiting : Context) (n : Number) (mark : ℕ) where
-  pub awaitingAfter-length : length (awaitingAfter awaiting n mark .words) ≡ length (awaiting .words)
-  awaitingAfter-length = go (endsWaiting mark)
-    where
-      go : (b : Bool) → length (cond b (leave awaiting n) awaiting .words) ≡ length (awaiting .words)
-      go true = leave-length awaiting n
-      go false = refl
-
-  -- nobody else is affected
-  awaitingAfter-other : (m : Number) → sameNumber n m ≡ false → member (awaitingAfter awaiting n mark) m ≡ member awaiting m
-  awaitingAfter-other m e = go (endsWaiting mark)
-    where
-      go : (b : Bool) → member (cond b (leave awaiting n) awaiting) m ≡ member awaiting m
-      go true = leave-other awaiting n m e
-      go false = refl
-
-  -- who did not await does not
-  awaitingAfter-less : (m : Number) → member awaiting m ≡ false → member (awaitingAfter awaiting n mark) m ≡ false
-  awaitingAfter-less m e = go (endsWaiting mark)
-    where
-      go : (b : Bool) → member (cond b (leave awaiting n) awaiting) m ≡ false
-      go true = member-leave awaiting n m ∙ first-false _ e
-      go false = e
-
-  -- a weak or stable reply ends the waiting
-  awaitingAfter-ends : endsWaiting mark ≡ true → member (awaitingAfter awaiting n mark) n ≡ false
-  awaitingAfter-ends e =
-      ap (λ (b : Bool). member (cond b (leave awaiting n) awaiting) n) e
-      ∙ member-leave awaiting n n ∙ second-false (member awaiting n) (ap not (sameNumber-self n))
 
 -- ---- a mark is given only to a request that awaits
 
@@ -143,7 +103,7 @@ accept-silent n r (deliver x) taken sound words s = record {
 accept-silent n r (commit m) taken sound words s =
     let c = commits (r .book .plan) m taken in
     record {
-      unawaited = awaitingAfter-less (r .awaiting) m (acceptedAnswer (r .book) (r .awaiting) (commit m) .mark) n (s .unawaited);
+      unawaited = awaiting-less (r .awaiting) m (acceptedAnswer (r .book) (r .awaiting) (commit m) .mark) n (s .unawaited);
       there =
           omega (
             arith,
@@ -155,7 +115,7 @@ accept-silent n r (commit m) taken sound words s =
 accept-silent n r undo taken sound words s = record { unawaited = s .unawaited; there = s .there }
 accept-silent n r execute taken sound words s =
     let given = acceptedAnswer (r .book) (r .awaiting) execute in
-    record { unawaited = awaitingAfter-less (r .awaiting) (given .number) (given .mark) n (s .unawaited); there = s .there }
+    record { unawaited = awaiting-less (r .awaiting) (given .number) (given .mark) n (s .unawaited); there = s .there }
 
 -- ---- what holds of the numbers awaiting a reply
 
@@ -232,7 +192,7 @@ settled-awaits : (own : ℕ) (awaiting : Context) (x : Request) (mark : ℕ) (y 
 settled-awaits own awaiting x mark y e =
     let parts = both-true (stays x y) _ e in
     let inner = both-true (isOf own y && y .strong) _ (parts .1) in
-    both (inner .0) (ap not (sym (awaitingAfter-other awaiting (x .number) mark (y .number) (stays-other x y (parts .0)))) ∙ inner .1)
+    both (inner .0) (ap not (sym (awaiting-other awaiting (x .number) mark (y .number) (stays-other x y (parts .0)))) ∙ inner .1)
 
 settled-strong : (own : ℕ) (awaiting : Context) (x : Request) (mark : ℕ) (t : List Request) → count (strongUnawaited own awaiting) t ≡ 0
     → count (strongUnawaited own (awaitingAfter awaiting (x .number) mark)) (keep (stays x) t) ≡ 0
@@ -323,14 +283,14 @@ accept-awaiting r (deliver x) taken sound w = record {
 accept-awaiting r (commit m) taken sound w =
     let mark = acceptedAnswer (r .book) (r .awaiting) (commit m) .mark in
     record {
-      words = awaitingAfter-length (r .awaiting) m mark ∙ w .words;
+      words = awaiting-length (r .awaiting) m mark ∙ w .words;
       strong-await = settlement-awaits (r .book .plan) m (r .awaiting) mark (commits (r .book .plan) m taken) (w .strong-await);
     }
 accept-awaiting r undo taken sound w = record { words = w .words; strong-await = w .strong-await }
 accept-awaiting r execute taken sound w =
     let given = acceptedAnswer (r .book) (r .awaiting) execute in
     record {
-      words = awaitingAfter-length (r .awaiting) (given .number) (given .mark) ∙ w .words;
+      words = awaiting-length (r .awaiting) (given .number) (given .mark) ∙ w .words;
       strong-await = execution-awaits r taken sound (w .strong-await);
     }
 
@@ -367,7 +327,7 @@ accepted-ends r (commit m) taken sound e =
     let c = commits a m taken in
     let here = ap (λ (n : Number). sameNumber n (c .request .number)) (c .number) ∙ sameNumber-self (c .request .number) in
     record {
-      unawaited = awaitingAfter-ends (r .awaiting) m (acceptedAnswer (r .book) (r .awaiting) (commit m) .mark) e;
+      unawaited = awaiting-ends (r .awaiting) m (acceptedAnswer (r .book) (r .awaiting) (commit m) .mark) e;
       there =
           omega (
             arith,
@@ -384,7 +344,7 @@ accepted-ends r undo taken sound e = go (r .book .execution .rollback) e
     go (x ∷ xs) e = true-not-false e refl
 accepted-ends r execute taken sound e =
     let given = acceptedAnswer (r .book) (r .awaiting) execute in
-    record { unawaited = awaitingAfter-ends (r .awaiting) (given .number) (given .mark) e; there = there (r .book .execution .todo) refl e }
+    record { unawaited = awaiting-ends (r .awaiting) (given .number) (given .mark) e; there = there (r .book .execution .todo) refl e }
   where
     there : (l : List Request) → r .book .execution .todo ≡ l → let given = executionReply (r .book) (r .awaiting) l in
         endsWaiting (given .mark) ≡ true → 1 ≤ count (hasNumber (given .number)) (order (r .book .plan))

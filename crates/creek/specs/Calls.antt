@@ -2,6 +2,8 @@
 use Prim.Native.Nat.{ℕ, _+_}
 use mathlib.Core.Bool.{Bool, true, false, not, _&&_, _||_, cond}
 use lib.Dec.{leb, ltb}
+use Rattle.counters.specs.declared.Counters.{Counters}
+use Rattle.counters.specs.Counted.{counted}
 use Rattle.sets.specs.declared.Context.{Context}
 use Rattle.numbers.specs.Numbers.{mostPanels}
 use Rattle.sets.specs.Sets.{emptySet}
@@ -11,15 +13,6 @@ use Rattle.lists.specs.Lists.{one}
 use Rattle.creek.specs.Book.{Call, invoke, deliver, commit, undo, execute, Book, emptyBook, isAccepted, accepted}
 use Rattle.creek.specs.Replies.{answerOf, acceptedAwaiting}
 
--- the step counters: undos done and carry-outs done
-pub record Counters : Type 0 where
-  pub undos : ℕ
-  pub executions : ℕ
-
--- the counters after so many more of each
-abbrev pub counted : Counters → ℕ → ℕ → Counters
-counted k undos executions = record { undos = k .undos + undos; executions = k .executions + executions }
-
 -- registers and the values from before each request are not kept here: the registers are a replay of the requests on the board
 pub record Replica : Type 0 where
   pub book : Book
@@ -27,6 +20,7 @@ pub record Replica : Type 0 where
   pub awaiting : Context
   -- the settlements accepted
   pub commits : ℕ
+  -- the undos and carry-outs done
   pub counters : Counters
 
 -- ---- fresh

@@ -13,7 +13,7 @@ use Rattle.lists.specs.Lists.{Ordered}
 use Rattle.creek.specs.Execution.{board, operations, registers, isIdle}
 use Rattle.creek.specs.Book.{Call, refusal}
 use Rattle.creek.specs.Calls.{Replica, fresh, bringsRequest, isCommit, isUndo, isExecute}
-use Rattle.creek.specs.History.{run, acceptedIn, due, settleDown}
+use Rattle.creek.specs.History.{run, acceptedIn, dueCall, afterDueSteps}
 use Rattle.creek.specs.Showing.{requestsShown, commitsShown, undosShown, executionsShown, owedShown}
 
 -- the bound: n(n−1)/2 + s·n − s(s−1)/2
@@ -27,7 +27,7 @@ module _ (panels own : ℕ) (calls : List Call) where
 
   -- the replica after k due steps more
   abbrev pub afterDue : ℕ → Replica
-  afterDue k = settleDown k now
+  afterDue k = afterDueSteps k now
 
   -- how many calls of a kind were accepted among them
   abbrev pub acceptedOf : (Call → Bool) → ℕ
@@ -45,7 +45,7 @@ module _ (panels own : ℕ) (calls : List Call) where
     pub undos-shown : undosShown now ≡ acceptedOf isUndo
     pub executions-shown : executionsShown now ≡ acceptedOf isExecute
     -- if only the step that is due is called, each is accepted, and the replica is idle exactly when as many are done as were owed
-    pub due-accepted : (k : ℕ) → k < owedShown now → refusal (afterDue k .book) (due (afterDue k .book .execution)) ≡ refused.accepted
+    pub due-accepted : (k : ℕ) → k < owedShown now → refusal (afterDue k .book) (dueCall (afterDue k .book)) ≡ refused.accepted
     pub idle-exactly : (k : ℕ) → k ≤ owedShown now → isIdle (afterDue k .book .execution) ≡ eqb k (owedShown now)
     -- the registers then are one replay of the committed requests in their order and then the tentative ones in clock order
     pub plan-kept : (k : ℕ) → afterDue k .book .plan ≡ now .book .plan

@@ -13,8 +13,7 @@ use Rattle.registers.specs.Effect.{exec, response}
 use Rattle.creek.specs.declared.Answer.{Answer}
 use Rattle.creek.specs.Book.{Call, invoke}
 use Rattle.creek.specs.Calls.{Replica, step, answer}
-use Rattle.creek.specs.History.{settleDown}
-use Rattle.creek.specs.Showing.{owedShown}
+use Rattle.creek.specs.History.{idled}
 
 -- what the definitions compute beside what document 01 says
 pub record Case : Type 0 where
@@ -105,7 +104,7 @@ numbers (x ∷ xs) = x .number .panel .0 ∷ x .number .event .0 ∷ numbers xs
 -- the replica after those calls, with the due steps called until idle after each, as the printout program does
 unfoldable pub driven : Replica → List Call → Replica
 driven r [] = r
-driven r (c ∷ cs) = driven (settleDown (owedShown (step r c)) (step r c)) cs
+driven r (c ∷ cs) = driven (idled (step r c)) cs
 
 -- an answer's number, response and mark
 abbrev pub replied : Answer → List ℕ

@@ -7,8 +7,8 @@ use Rattle.sets.specs.Sets.{emptySet, join}
 use Rattle.creek.specs.Book.{Call, deliver, commit, undo, execute}
 use Rattle.creek.specs.Replies.{noMark, stableMark}
 use Rattle.creek.specs.Calls.{Replica, fresh, step, answer}
-use Rattle.creek.specs.History.{run, settleDown}
-use Rattle.creek.specs.Showing.{registerShown, undosShown, owedShown}
+use Rattle.creek.specs.History.{run, idled}
+use Rattle.creek.specs.Showing.{registerShown, undosShown}
 use Rattle.creek.specs.Demand.{mostUndos}
 use Rattle.creek.specs.Cases.{standing}
 use Rattle.creek.specs.Examples.{Case, case, read, setTo, add, claim, weak, strong, makeStrong, numbers, driven, replied}
@@ -56,7 +56,7 @@ faults =
     ∷ case (answer strongHeard (makeStrong 9 (read 0)) .request .context .words) (join emptySet (numbered 0 1) .words)
     -- replacing the undo list, not extending it, when the order changes again before the undos are done
     ∷ case (numbers (twiceChanged .book .execution .rollback)) (0 ∷ 2 ∷ 0 ∷ 1 ∷ [])
-    ∷ case (registerShown (settleDown (owedShown twiceChanged) twiceChanged) 4 ∷ []) (7 ∷ [])
+    ∷ case (registerShown (idled twiceChanged) 4 ∷ []) (7 ∷ [])
     -- showing the last tentative response, 9, as stable after the request's place changed; the stable one comes with its carry-out
     ∷ case (replied (answer overtaken (commit (numbered 0 1)))) (0 ∷ 0 ∷ 0 ∷ noMark ∷ [])
     ∷ case (replied (answer (run overtaken (commit (numbered 0 1) ∷ undo ∷ undo ∷ [])) execute)) (0 ∷ 1 ∷ 5 ∷ stableMark ∷ [])

@@ -6,6 +6,7 @@ use mathlib.Core.Bool.{Bool, true, false, not, _&&_, _||_, Bool·beq}
 use mathlib.Core.List.{List, _++_}
 use lib.ListN.{length}
 use lib.Dec.{ltb}
+use Rattle.counters.specs.declared.Counters.{Counters}
 use Rattle.sets.specs.declared.Context.{Context}
 use Rattle.numbers.specs.declared.Number.{Number}
 use Rattle.request.specs.declared.Request.{Request}
@@ -18,7 +19,7 @@ use Rattle.lists.specs.Lists.{count, Ordered}
 use Rattle.creek.specs.Plan.{Plan, order, hasNumber, isOf}
 use Rattle.creek.specs.Execution.{board}
 use Rattle.creek.specs.Book.{Book}
-use Rattle.creek.specs.Calls.{Counters, Replica}
+use Rattle.creek.specs.Calls.{Replica}
 
 -- a shift has at most 512 requests
 abbrev pub mostRequests : ℕ

@@ -13,7 +13,6 @@ use lib.Dec.{eqb}
 use borrow.Author.Tests.{eq-eqb, ne-eqb}
 use Rattle.lists.specs.Lists.{one, count, consIf}
 use Rattle.lists.proofs.ListLaws.{one-true, count-append}
-use Rattle.sets.specs.declared.Context.{Context}
 use Rattle.numbers.specs.declared.Number.{Number}
 use Rattle.request.specs.declared.Request.{Request}
 use Rattle.numbers.specs.Numbers.{numberOf}
@@ -25,14 +24,15 @@ use Rattle.creek.specs.Plan.{isOf}
 use Rattle.creek.specs.Book.{Call, undo, execute}
 use Rattle.creek.specs.Replies.{noMark, reply, awaitingAfter}
 use Rattle.creek.specs.Calls.{Replica, step, answer}
-use Rattle.creek.specs.History.{due, settleDown}
+use Rattle.creek.specs.History.{dueCall, afterDueSteps, idled}
 use Rattle.creek.proofs.ExecutionLaws.{idle-owed}
+use Rattle.creek.specs.Showing.{owedShown}
 use Rattle.counters.specs.declared.Counters.{Counters}
 use Rattle.steps.specs.declared.DueReply.{DueReply}
 use Rattle.replica.specs.State.{State, Called}
 use Rattle.store.specs.Requests.{operationIn, requestAt}
 use Rattle.replica.specs.Model.{orderOf, planOf, bookOf, model, savedAt, Inv, Kept}
-use Rattle.due.specs.Due.{Ran, noReply, replyIn, isAwaited, dueCall, dueReplies, mostReplies, padded, stepsOwed, repliesOwed, RunDue, SameJob, RolledBack, ExecutedAll}
+use Rattle.due.specs.Due.{Ran, noReply, replyIn, isAwaited, dueReplies, mostReplies, padded, repliesOwed, RunDue, SameJob, RolledBack, ExecutedAll}
 use Rattle.replica.proofs.States.{undoneState, executedState}
 use Rattle.replica.proofs.ModelLaws.{requestOf, topSlot, nextSlot, order-planned, plan-sound, length-order, rollback-first, rollback-none, rollback-length, todo-length, order-next}
 use Rattle.steps.proofs.UndoLaws.{undo-kept}
@@ -43,26 +43,26 @@ use Rattle.due.proofs.OwnLaws.{own-few}
 -- ---- one due step
 
 module _ (p : State) (inv : Inv p) where
-  due-undo : p .executed < p .stacked → dueCall (model p) ≡ undo
+  due-undo : p .executed < p .stacked → dueCall (model p .book) ≡ undo
   unfolding model
   due-undo h = rw (rollback-first p inv h)
 
-  due-execute : p .executed ≡ p .stacked → dueCall (model p) ≡ execute
+  due-execute : p .executed ≡ p .stacked → dueCall (model p .book) ≡ execute
   unfolding model
   due-execute e = rw (rollback-none p inv (sym e))
 
-module _ (p : State) (c : Call) (r : Called) (kept : Kept p c r) (is : dueCall (model p) ≡ c)
-    (less : stepsOwed p ≡ suc (stepsOwed (r .state))) where
-  state-on : settleDown (stepsOwed (r .state)) (model (r .state)) ≡ settleDown (stepsOwed p) (model p)
-  unfolding settleDown
+module _ (p : State) (c : Call) (r : Called) (kept : Kept p c r) (is : dueCall (model p .book) ≡ c)
+    (less : owedShown (model p) ≡ suc (owedShown (model (r .state)))) where
+  state-on : idled (model (r .state)) ≡ idled (model p)
+  unfolding afterDueSteps
   state-on =
-      ap (settleDown (stepsOwed (r .state))) (kept .state ∙ ap (step (model p)) (sym is))
-      ∙ ap (λ (k : ℕ). settleDown k (model p)) (sym less)
+      ap (afterDueSteps (owedShown (model (r .state)))) (kept .state ∙ ap (step (model p)) (sym is))
+      ∙ ap (λ (k : ℕ). afterDueSteps k (model p)) (sym less)
 
   replies-on : consIf (isAwaited (r .answer)) (replyIn (r .answer)) (repliesOwed (r .state)) ≡ repliesOwed p
   unfolding dueReplies
   replies-on =
-      let rest : Replica → List DueReply = dueReplies (stepsOwed (r .state)) in
+      let rest : Replica → List DueReply = dueReplies (owedShown (model (r .state))) in
       ap (λ (m : Replica). consIf (isAwaited (r .answer)) (replyIn (r .answer)) (rest m)) (kept .state)
       ∙ ap (λ (a : Answer). consIf (isAwaited a) (replyIn a) (rest (step (model p) c))) (kept .answer)
       ∙ ap (λ (d : Call). consIf (isAwaited (answer (model p) d)) (replyIn (answer (model p) d)) (rest (step (model p) d))) (sym is)
@@ -76,15 +76,11 @@ module _ (p : State) (c : Call) (r : Called) (kept : Kept p c r) (is : dueCall (
   replies-shown n =
       ap (λ (b : Bool). consIf (not b) (replyIn (r .answer)) (repliesOwed (r .state))) (sym (ne-eqb (r .answer .mark) noMark n)) ∙ replies-on
 
--- a reply that nobody awaits leaves everybody waiting
-pub quiet-awaiting : (awaiting : Context) (n : Number) (mark : ℕ) → mark ≡ noMark → awaiting ≡ awaitingAfter awaiting n mark
-quiet-awaiting awaiting n mark e = ap (awaitingAfter awaiting n) (sym e)
-
 -- nothing is owed any more
-module _ (q : State) (none : stepsOwed q ≡ 0) where
-  state-end : settleDown (stepsOwed q) (model q) ≡ model q
-  unfolding settleDown
-  state-end = ap (λ (k : ℕ). settleDown k (model q)) none
+module _ (q : State) (none : owedShown (model q) ≡ 0) where
+  state-end : idled (model q) ≡ model q
+  unfolding afterDueSteps
+  state-end = ap (λ (k : ℕ). afterDueSteps k (model q)) none
 
   replies-end : repliesOwed q ≡ []
   unfolding dueReplies
@@ -109,7 +105,7 @@ rolling-on p q h below registers counters back counted =
     let kept = undo-kept q (h .invariant) below registers back counters _ counted refl in
     let called : Called = record { answer = reply (numberOf (topSlot q)) 0 noMark; state = undoneState q registers counters } in
     let is = due-undo q (h .invariant) below in
-    let less : stepsOwed q ≡ suc (stepsOwed (called .state)) =
+    let less : owedShown (model q) ≡ suc (owedShown (model (called .state))) =
     omega (arith, owed-are q (h .invariant), owed-are (called .state) (kept .invariant)) in
     record {
       invariant = kept .invariant;
@@ -136,7 +132,7 @@ rolling-end p q h all = record {
 pub record Executing (p q : State) (replies : List DueReply) (n : ℕ) : Type 0 where
   pub invariant : Inv q
   pub nothing : q .executed ≡ q .stacked
-  pub state : settleDown (stepsOwed q) (model q) ≡ settleDown (stepsOwed p) (model p)
+  pub state : idled (model q) ≡ idled (model p)
   pub shown : take n replies ++ repliesOwed q ≡ repliesOwed p
   pub rest : drop n replies ≡ replicate (mostReplies - n) noReply
   pub long : length replies ≡ mostReplies
@@ -184,7 +180,7 @@ module _ (p q : State) (replies : List DueReply) (n : ℕ) (h : Executing p q re
     invariant = h .invariant;
   }
     where
-      none : stepsOwed q ≡ 0
+      none : owedShown (model q) ≡ 0
       none = omega (arith, owed-are q (h .invariant), h .nothing)
 
       inside : n ≤ length replies
@@ -231,10 +227,10 @@ module _ (p q : State) (replies : List DueReply) (n : ℕ) (h : Executing p q re
       kept : Kept q execute called
       kept = execute-kept q (h .invariant) (h .nothing) more after word v number mark awaiting counters before done about left counted _ refl
 
-      is : dueCall (model q) ≡ execute
+      is : dueCall (model q .book) ≡ execute
       is = due-execute q (h .invariant) (h .nothing)
 
-      less : stepsOwed q ≡ suc (stepsOwed (called .state))
+      less : owedShown (model q) ≡ suc (owedShown (model (called .state)))
       less = omega (arith, owed-are q (h .invariant), owed-are (called .state) (kept .invariant), h .nothing)
 
       -- nobody waits for the reply

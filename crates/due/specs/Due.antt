@@ -10,11 +10,11 @@ use Rattle.counters.specs.declared.Counters.{Counters}
 use Rattle.counters.specs.Counted.{undosCounted, executionsCounted}
 use Rattle.numbers.specs.Numbers.{noNumber, mostEvents}
 use Rattle.creek.specs.declared.Answer.{Answer}
-use Rattle.creek.specs.Execution.{owed, isIdle}
-use Rattle.creek.specs.Book.{Call}
+use Rattle.creek.specs.Execution.{isIdle}
 use Rattle.creek.specs.Replies.{noMark}
 use Rattle.creek.specs.Calls.{Replica, step, answer}
-use Rattle.creek.specs.History.{due, settleDown}
+use Rattle.creek.specs.History.{dueCall, idled}
+use Rattle.creek.specs.Showing.{owedShown}
 use Rattle.replica.specs.declared.Core.{Core}
 use Rattle.steps.specs.declared.DueReply.{DueReply}
 use Rattle.due.specs.declared.DueResult.{DueResult}
@@ -36,15 +36,11 @@ replyIn a = record { number = a .number; response = a .response; mark = a .mark 
 abbrev pub isAwaited : Answer → Bool
 isAwaited a = not (eqb (a .mark) noMark)
 
--- the step that is due
-abbrev pub dueCall : Replica → Call
-dueCall r = due (r .book .execution)
-
 -- the replies with a mark among the answers of so many due steps, in their order
 unfoldable pub dueReplies : ℕ → Replica → List DueReply
 dueReplies zero r = []
 dueReplies (suc k) r =
-    consIf (isAwaited (answer r (dueCall r))) (replyIn (answer r (dueCall r))) (dueReplies k (step r (dueCall r)))
+    consIf (isAwaited (answer r (dueCall (r .book)))) (replyIn (answer r (dueCall (r .book)))) (dueReplies k (step r (dueCall (r .book))))
 
 -- at most this many replies fall due: only own requests are awaited, and each is executed at most once on the way
 abbrev pub mostReplies : ℕ
@@ -64,18 +60,14 @@ pub record Ran : Type 0 where
   pub replies : List DueReply
   pub state : State
 
--- the steps that the state owes
-abbrev pub stepsOwed : State → ℕ
-stepsOwed p = owed (model p .book .execution)
-
 -- the replies that fall due until it is idle
 abbrev pub repliesOwed : State → List DueReply
-repliesOwed p = dueReplies (stepsOwed p) (model p)
+repliesOwed p = dueReplies (owedShown (model p)) (model p)
 
 -- every due step done on p
 pub record RunDue (p : State) (r : Ran) : Type 0 where
   -- the state after as many due steps as were owed
-  pub state : model (r .state) ≡ settleDown (stepsOwed p) (model p)
+  pub state : model (r .state) ≡ idled (model p)
   -- how many undos and how many executions these were
   pub undos : r .undos ≡ length (model p .book .execution .rollback)
   pub executions : r .executions ≡ length (model p .book .execution .todo)
@@ -89,7 +81,7 @@ pub record RunDue (p : State) (r : Ran) : Type 0 where
 
 -- the job from q on is the job from p on: as many due steps as are owed lead to one replica, with the same replies
 pub record SameJob (p q : State) : Type 0 where
-  pub state : settleDown (stepsOwed q) (model q) ≡ settleDown (stepsOwed p) (model p)
+  pub state : idled (model q) ≡ idled (model p)
   pub replies : repliesOwed q ≡ repliesOwed p
 
 -- q is p with nothing left to be rolled back
@@ -102,7 +94,7 @@ pub record RolledBack (p q : State) : Type 0 where
 
 -- what was to do on p, which has nothing to be rolled back, is executed
 pub record ExecutedAll (p : State) (undos : ℕ) (r : Ran) : Type 0 where
-  pub state : model (r .state) ≡ settleDown (stepsOwed p) (model p)
+  pub state : model (r .state) ≡ idled (model p)
   pub handed : r .undos ≡ undos
   pub executions : r .executions ≡ p .ordered - p .executed
   pub count : r .count ≡ length (repliesOwed p)

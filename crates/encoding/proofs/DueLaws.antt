@@ -9,6 +9,7 @@ use Rattle.numbers.specs.Numbers.{noNumber}
 use Rattle.request.specs.Refusal as refused
 use Rattle.creek.specs.Replies.{noMark, noRequest}
 use Rattle.creek.specs.Sound.{mostRequests}
+use Rattle.creek.specs.Showing.{owedShown}
 use Rattle.replica.specs.State.{State, Called}
 use Rattle.due.specs.Due.{Ran}
 use Rattle.replica.specs.Model.{Inv, model, Kept}
@@ -16,10 +17,10 @@ use Rattle.due.specs.Due.{RunDue}
 use Rattle.replica.proofs.ShowingLaws.{owed-are}
 use Rattle.wire.specs.declared.Message.{Message}
 use Rattle.wire.specs.Message.{noMessage, bare}
-use Rattle.encoding.specs.Encoding.{allDueTag, callAt, one, allDue, entryAt, owedBy, after, answerTo, Done}
+use Rattle.encoding.specs.Encoding.{allDueTag, callAt, one, allDue, entryAt, after, answerTo, Done}
 
 -- at most two steps are owed for each request
-owed-few : (p : State) → Inv p → owedBy (model p) ≤ 2 * mostRequests
+owed-few : (p : State) → Inv p → owedShown (model p) ≤ 2 * mostRequests
 owed-few p inv = omega (arith, owed-are p inv, inv .counts .ordered, inv .counts .stacked)
 
 pub steps-few : (p : State) (r : Ran) → Inv p → RunDue p r → r .undos + r .executions ≤ 2 * mostRequests

@@ -5,12 +5,13 @@ use Rattle.creek.specs.Calls.{Replica}
 use Rattle.creek.specs.History.{run}
 use Rattle.creek.proofs.CallLaws.{run-append}
 use Rattle.creek.proofs.DueLaws.{run-due}
-use Rattle.encoding.specs.Encoding.{Entry, one, allDue, owedBy, after, runEntries, callsIn, callsOf}
+use Rattle.creek.specs.Showing.{owedShown}
+use Rattle.encoding.specs.Encoding.{Entry, one, allDue, after, runEntries, callsIn, callsOf}
 
 run-entry : (r : Replica) (x : Entry) → run r (callsIn r x) ≡ after r x
 unfolding callsIn after run
 run-entry r (one c) = refl
-run-entry r allDue = run-due (owedBy r) r
+run-entry r allDue = run-due (owedShown r) r
 
 pub run-expanded : (r : Replica) (xs : List Entry) → run r (callsOf r xs) ≡ runEntries r xs
 unfolding callsOf runEntries run

@@ -11,10 +11,10 @@ use Rattle.numbers.specs.Numbers.{noNumber}
 use Rattle.creek.specs.declared.Invocation.{Invocation}
 use Rattle.creek.specs.declared.Answer.{Answer}
 use Rattle.creek.specs.Book.{Call, invoke, undo, execute}
-use Rattle.creek.specs.Execution.{owed}
 use Rattle.creek.specs.Replies.{noMark, reply}
 use Rattle.creek.specs.Calls.{Replica, fresh, step, answer}
-use Rattle.creek.specs.History.{settleDown, dueCalls}
+use Rattle.creek.specs.History.{idled, dueCalls}
+use Rattle.creek.specs.Showing.{owedShown}
 use Rattle.replica.specs.State.{State, Called}
 use Rattle.replica.specs.Model.{Inv, model}
 use Rattle.wire.specs.declared.Message.{Message}
@@ -105,19 +105,15 @@ entriesOf s = entriesFrom s callsAt (callCount s)
 
 -- ---- what an entry does
 
--- the steps that a replica owes
-abbrev pub owedBy : Replica → ℕ
-owedBy r = owed (r .book .execution)
-
 -- the replica after an entry
 unfoldable pub after : Replica → Entry → Replica
 after r (one c) = step r c
-after r allDue = settleDown (owedBy r) r
+after r allDue = idled r
 
 -- the answer to it; all due steps are answered by their count
 unfoldable pub answerTo : Replica → Entry → Answer
 answerTo r (one c) = answer r c
-answerTo r allDue = reply noNumber (owedBy r) noMark
+answerTo r allDue = reply noNumber (owedShown r) noMark
 
 -- the replica after those entries, each on what the last one left
 unfoldable pub runEntries : Replica → List Entry → Replica
@@ -135,7 +131,7 @@ pub record Done (p : State) (x : Entry) (r : Called) : Type 0 where
 -- the calls of an entry
 unfoldable pub callsIn : Replica → Entry → List Call
 callsIn r (one c) = c ∷ []
-callsIn r allDue = dueCalls (owedBy r) (r .book)
+callsIn r allDue = dueCalls (owedShown r) (r .book)
 
 -- the calls of all entries
 unfoldable pub callsOf : Replica → List Entry → List Call

@@ -16,7 +16,7 @@ use Rattle.slots.specs.Slots.{comesBefore, without}
 use Rattle.creek.specs.declared.Invocation.{Invocation}
 use Rattle.creek.specs.Plan.{Plan, emptyPlan, entered, lastEvent, lastClock, invokeRefusal, deliverRefusal}
 use Rattle.creek.specs.Book.{invoke, deliver, planned}
-use Rattle.creek.specs.Calls.{counted}
+use Rattle.counters.specs.Counted.{counted}
 use Rattle.creek.specs.Sound.{Sound, mostRequests}
 use Rattle.replica.specs.declared.Core.{Core}
 use Rattle.replica.specs.declared.CallResult.{CallResult}

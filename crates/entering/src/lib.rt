@@ -23,7 +23,7 @@ ghost use lib.Seq.{slice};
 ghost use Rattle.sets.specs.Sets.{setOf};
 ghost use Rattle.slots.specs.Slots.{OrderAsks};
 ghost use Rattle.creek.specs.Plan.{knownWith, atLeast, heldRefusal};
-ghost use Rattle.creek.specs.Replies.{spread as spreadAnswer, done as doneAnswer};
+ghost use Rattle.creek.specs.Replies.{spread as spreadAnswer};
 ghost use Rattle.entering.specs.Entering.{Asked, contextFor, requestFor, judged, EnterAsks, EnterKept};
 ghost use Rattle.entering.specs.Entering.{DeliverAsks, DeliverKept, InvokeAsks, InvokeKept};
 
@@ -250,7 +250,7 @@ pub fn deliver<'a>(
     let mut after = core;
     after.ordered = core.ordered + 1;
     after.executed = executed;
-    let answer = done();
+    let answer = replica::done();
     CallResult {
         core: after,
         answer,
@@ -284,17 +284,6 @@ fn held_refusal(y: Request, x: Request) -> u8
         return refusal::HELD_ALREADY;
     }
     refusal::NUMBER_CLASH
-}
-
-// The answer of an accepted call that names no request.
-fn done() -> Answer
-    ensures { λ a. ⌜ a ≡ doneAnswer ⌝ }
-{
-    let none = Number {
-        panel: PanelNo(0),
-        event: EventNo(0),
-    };
-    replica::reply(none, 0, NOBODY)
 }
 
 // Puts the number n into the known set, where a request of that strength is known as soon as it enters.

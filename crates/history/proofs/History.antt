@@ -15,25 +15,25 @@ use Rattle.creek.specs.Plan.{order}
 use Rattle.creek.specs.Execution.{operations, registers, owed, isIdle}
 use Rattle.creek.specs.Book.{Call, Book, refusal, notedAll}
 use Rattle.creek.specs.Calls.{Replica, fresh, step, answer}
-use Rattle.creek.specs.History.{run, settleDown, dueCalls}
+use Rattle.creek.specs.History.{run, afterDueSteps, dueCalls, idled, dueCall, answersTo, refusals}
 use Rattle.creek.proofs.DueLaws.{due-calls, run-due, undos-done, executions-done}
 use Rattle.creek.specs.Showing.{undosShown, executionsShown, owedShown}
 use Rattle.creek.specs.Demand.{Demand3}
 use Rattle.creek.proofs.CallLaws.{answer-refusal, step-book, run-book, run-append}
 use Rattle.creek.proofs.Demand.{demand-3}
 use Rattle.replica.specs.State.{State, Opened}
-use Rattle.due.specs.Due.{Ran, noReply, replyIn, isAwaited, dueCall, dueReplies, mostReplies, stepsOwed, repliesOwed, RunDue}
+use Rattle.due.specs.Due.{Ran, noReply, replyIn, isAwaited, dueReplies, mostReplies, repliesOwed, RunDue}
 use Rattle.steps.specs.declared.DueReply.{DueReply}
 use Rattle.replica.specs.Model.{model, Inv, Fresh}
 use Rattle.replica.proofs.ModelLaws.{registers-are}
-use Rattle.history.specs.History.{openedBook, refusals, answersTo, stepsDue, answersDue, Leads, stay, call, all-due, refusalsIn}
+use Rattle.history.specs.History.{openedBook, stepsDue, answersDue, Leads, stay, call, all-due, refusalsIn}
 use Rattle.history.specs.History.{repliesIn, DueStepsDone, AllDueDone, PanelDemand3}
 
 -- ---- all due steps at once, and the single steps
 
 -- all due steps at once lead where the single steps lead
 due-model : (p : State) (r : Ran) → RunDue p r → model (r .state) ≡ run (model p) (stepsDue p)
-due-model p r ran = ran .state ∙ sym (run-due (stepsOwed p) (model p))
+due-model p r ran = ran .state ∙ sym (run-due (owedShown (model p)) (model p))
 
 answers-append : (r : Replica) (cs ds : List Call) → answersTo r (cs ++ ds) ≡ answersTo r cs ++ answersTo (run r cs) ds
 unfolding answersTo run
@@ -83,13 +83,13 @@ answers-refusals r (c ∷ cs) =
 -- ---- due steps
 
 -- the answers of due steps that are all accepted
-due-answers : (k : ℕ) (r : Replica) → ((j : ℕ) → j < k → refusal (settleDown j r .book) (dueCall (settleDown j r)) ≡ refused.accepted)
+due-answers : (k : ℕ) (r : Replica) → ((j : ℕ) → j < k → refusal (afterDueSteps j r .book) (dueCall (afterDueSteps j r .book)) ≡ refused.accepted)
     → refusalsIn (answersTo r (dueCalls k (r .book))) ≡ replicate k refused.accepted
-unfolding dueCalls settleDown answersTo
+unfolding dueCalls afterDueSteps answersTo
 due-answers zero r taken = refl
 due-answers (suc k) r taken =
-    let first = answer-refusal r (dueCall r) ∙ taken 0 (omega arith) in
-    let others = due-answers k (step r (dueCall r)) (λ j h. taken (suc j) (omega arith)) in
+    let first = answer-refusal r (dueCall (r .book)) ∙ taken 0 (omega arith) in
+    let others = due-answers k (step r (dueCall (r .book))) (λ j h. taken (suc j) (omega arith)) in
     ap (λ (l : List Call). refusalsIn (answersTo r l)) (due-calls k r) ∙ (λ i. first i ∷ others i)
 
 -- the replies of due steps are those in their answers
@@ -97,12 +97,12 @@ due-replies : (k : ℕ) (r : Replica) → dueReplies k r ≡ repliesIn (answersT
 unfolding dueReplies dueCalls answersTo
 due-replies zero r = refl
 due-replies (suc k) r =
-    ap (consIf (isAwaited first) (replyIn first)) (due-replies k (step r (dueCall r)))
-    ∙ kept (isAwaited first) (answersTo (step r (dueCall r)) (dueCalls k (step r (dueCall r) .book)))
+    ap (consIf (isAwaited first) (replyIn first)) (due-replies k (step r (dueCall (r .book))))
+    ∙ kept (isAwaited first) (answersTo (step r (dueCall (r .book))) (dueCalls k (step r (dueCall (r .book)) .book)))
     ∙ ap (λ (l : List Call). repliesIn (answersTo r l)) (sym (due-calls k r))
   where
     first : Answer
-    first = answer r (dueCall r)
+    first = answer r (dueCall (r .book))
 
     kept : (b : Bool) (others : List Answer)
         → consIf b (replyIn first) (repliesIn others) ≡ map replyIn (consIf b first (keep isAwaited others))
@@ -137,23 +137,23 @@ module _ {panels own : ℕ} {opened : Opened} {calls : List Call} {answers : Lis
   demand = demand-3 panels own calls
 
   due-taken : (j : ℕ) → j < owedShown (model q)
-      → refusal (settleDown j (model q) .book) (dueCall (settleDown j (model q))) ≡ refused.accepted
+      → refusal (afterDueSteps j (model q) .book) (dueCall (afterDueSteps j (model q) .book)) ≡ refused.accepted
   due-taken = rw panel-replica (demand .due-accepted)
 
-  due-idle : (k : ℕ) → k ≤ owedShown (model q) → isIdle (settleDown k (model q) .book .execution) ≡ eqb k (owedShown (model q))
+  due-idle : (k : ℕ) → k ≤ owedShown (model q) → isIdle (afterDueSteps k (model q) .book .execution) ≡ eqb k (owedShown (model q))
   due-idle = rw panel-replica (demand .idle-exactly)
 
-  due-replayed : registers (settleDown (owedShown (model q)) (model q) .book .execution) ≡ replay (operations (order (model q .book .plan)))
+  due-replayed : registers (idled (model q) .book .execution) ≡ replay (operations (order (model q .book .plan)))
   due-replayed = rw panel-replica (demand .replayed)
 
-  due-done : (k : ℕ) (last : State) → k ≤ owedShown (model q) → Inv last → model last ≡ settleDown k (model q)
+  due-done : (k : ℕ) (last : State) → k ≤ owedShown (model q) → Inv last → model last ≡ afterDueSteps k (model q)
       → DueStepsDone q k (answersTo (model q) (dueCalls k (model q .book))) last
   due-done k last few inv end = record {
     accepted = due-answers k (model q) (λ j h. due-taken j (omega arith));
     idle-exactly = ap (λ (r : Replica). isIdle (r .book .execution)) end ∙ due-idle k few;
     replayed =
         λ all. registers-model last inv
-        ∙ ap (λ (r : Replica). registers (r .book .execution)) (end ∙ ap (λ (n : ℕ). settleDown n (model q)) all)
+        ∙ ap (λ (r : Replica). registers (r .book .execution)) (end ∙ ap (λ (n : ℕ). afterDueSteps n (model q)) all)
         ∙ due-replayed;
   }
 
@@ -165,9 +165,9 @@ module _ {panels own : ℕ} {opened : Opened} {calls : List Call} {answers : Lis
 
   due-at-once : (r : Ran) → RunDue q r → AllDueDone q r
   due-at-once r ran =
-      let replied = due-replies (stepsOwed q) (model q) in
+      let replied = due-replies (owedShown (model q)) (model q) in
       record {
-        steps = due-done (stepsOwed q) (r .state) (omega arith) (ran .invariant) (ran .state);
+        steps = due-done (owedShown (model q)) (r .state) (omega arith) (ran .invariant) (ran .state);
         undos = omega (arith, ap undosShown (ran .state), undos-done (model q), ran .undos);
         executions = omega (arith, ap executionsShown (ran .state), executions-done (model q), ran .executions);
         count = ran .count ∙ ap length replied;

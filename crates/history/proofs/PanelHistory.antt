@@ -17,7 +17,7 @@ use Rattle.creek.specs.Agreement.{broughtBy, settledBy, gathered, replicaAfter}
 use Rattle.creek.proofs.CallLaws.{by-outcome, answer-refusal, step-book}
 use Rattle.creek.proofs.SoundLaws.{reached-sound}
 use Rattle.replica.specs.Model.{model, Inv}
-use Rattle.history.specs.History.{answersTo}
+use Rattle.creek.specs.History.{answersTo}
 use Rattle.history.specs.PanelHistory.{PanelHistory, historyOf, requestTold, settlementTold, told, PanelTells}
 use Rattle.history.proofs.History.{panel-inv, panel-replica, panel-demand-3}
 

@@ -10,11 +10,10 @@ use Rattle.lists.specs.Places.{All}
 use Rattle.lists.proofs.AllLaws.{all-anywhere, all-append, all-consIf}
 use Rattle.request.specs.declared.Request.{Request}
 use Rattle.creek.specs.declared.Answer.{Answer}
-use Rattle.creek.specs.Execution.{Execution}
-use Rattle.creek.specs.Book.{Call, undo, execute}
+use Rattle.creek.specs.Book.{Call, Book, undo, execute}
 use Rattle.creek.specs.Replies.{stableMark, responseIn}
 use Rattle.creek.specs.Calls.{Replica, fresh, step, answer}
-use Rattle.creek.specs.History.{run, due, settleDown, dueCalls}
+use Rattle.creek.specs.History.{run, answersTo, dueCall, afterDueSteps, idled, dueCalls}
 use Rattle.creek.specs.Sound.{Sound}
 use Rattle.creek.specs.StableReply.{repliedTo}
 use Rattle.creek.specs.Agreement.{replicaAfter}
@@ -22,11 +21,12 @@ use Rattle.creek.proofs.CallLaws.{run-append}
 use Rattle.creek.proofs.DueLaws.{run-due}
 use Rattle.creek.proofs.SoundLaws.{step-sound, fresh-sound}
 use Rattle.creek.proofs.StableReply.{sound-stable-reply}
+use Rattle.creek.specs.Showing.{owedShown}
 use Rattle.replica.specs.State.{State}
-use Rattle.due.specs.Due.{Ran, noReply, replyIn, isAwaited, dueCall, dueReplies, mostReplies, stepsOwed, repliesOwed, RunDue}
+use Rattle.due.specs.Due.{Ran, noReply, replyIn, isAwaited, dueReplies, mostReplies, repliesOwed, RunDue}
 use Rattle.steps.specs.declared.DueReply.{DueReply}
 use Rattle.replica.specs.Model.{model}
-use Rattle.history.specs.History.{answersTo, Leads}
+use Rattle.history.specs.History.{Leads}
 use Rattle.history.specs.PanelHistory.{PanelHistory, historyOf}
 use Rattle.history.specs.Agreement.{settledList, callAt, answerAt, replyAt, PanelStableReplies}
 use Rattle.history.proofs.History.{leads-model}
@@ -45,10 +45,10 @@ stable-in-answers r (c ∷ cs) further zero sound mark =
 stable-in-answers r (c ∷ cs) further (suc place) sound mark = stable-in-answers (step r c) cs further place (step-sound r c sound) mark
 
 -- a due step answers with the number that its reply is about
-due-number : (e : Execution) (v : Answer) → repliedTo (due e) v ≡ v .number
-due-number e v = go (isNil (e .rollback))
+due-number : (b : Book) (v : Answer) → repliedTo (dueCall b) v ≡ v .number
+due-number b v = go (isNil (b .execution .rollback))
   where
-    go : (b : Bool) → repliedTo (cond b execute undo) v ≡ v .number
+    go : (none : Bool) → repliedTo (cond none execute undo) v ≡ v .number
     go true = refl
     go false = refl
 
@@ -57,24 +57,24 @@ abbrev StandsIn : List Request → DueReply → Type 0
 StandsIn l d = d .mark ≡ stableMark → d .response ≡ responseIn (d .number) l
 
 due-replies-stand : (k : ℕ) (r : Replica) (further : List Call) → Sound r
-    → All (StandsIn (run (settleDown k r) further .book .plan .committed)) (dueReplies k r)
-unfolding dueReplies settleDown
+    → All (StandsIn (run (afterDueSteps k r) further .book .plan .committed)) (dueReplies k r)
+unfolding dueReplies afterDueSteps
 due-replies-stand zero r further sound = tt
 due-replies-stand (suc k) r further sound =
-    all-consIf (StandsIn (run (settleDown k next) further .book .plan .committed)) (isAwaited (answer r (dueCall r)))
-    (replyIn (answer r (dueCall r))) (dueReplies k next) this
-    (due-replies-stand k next further (step-sound r (dueCall r) sound))
+    all-consIf (StandsIn (run (afterDueSteps k next) further .book .plan .committed)) (isAwaited (answer r (dueCall (r .book))))
+    (replyIn (answer r (dueCall (r .book)))) (dueReplies k next) this
+    (due-replies-stand k next further (step-sound r (dueCall (r .book)) sound))
   where
     next : Replica
-    next = step r (dueCall r)
+    next = step r (dueCall (r .book))
 
-    this : answer r (dueCall r) .mark ≡ stableMark
-        → answer r (dueCall r) .response ≡ responseIn (answer r (dueCall r) .number) (run (settleDown k next) further .book .plan .committed)
+    this : answer r (dueCall (r .book)) .mark ≡ stableMark
+        → answer r (dueCall (r .book)) .response ≡ responseIn (answer r (dueCall (r .book)) .number) (run (afterDueSteps k next) further .book .plan .committed)
     this mark =
-        sound-stable-reply r (dueCall r) sound .stands mark (dueCalls k (next .book) ++ further)
-        ∙ ap (λ (q : Replica). responseIn (repliedTo (dueCall r) (answer r (dueCall r))) (q .book .plan .committed))
+        sound-stable-reply r (dueCall (r .book)) sound .stands mark (dueCalls k (next .book) ++ further)
+        ∙ ap (λ (q : Replica). responseIn (repliedTo (dueCall (r .book)) (answer r (dueCall (r .book)))) (q .book .plan .committed))
         (run-append next (dueCalls k (next .book)) further ∙ ap (λ (q : Replica). run q further) (run-due k next))
-        ∙ rw (due-number (r .book .execution) (answer r (dueCall r)))
+        ∙ rw (due-number (r .book) (answer r (dueCall (r .book))))
 
 -- the replies of zeros have no mark
 zeros-stand : (l : List Request) (n : ℕ) → All (StandsIn l) (replicate n noReply)
@@ -106,7 +106,7 @@ module _ {panels own : ℕ} (p : PanelHistory panels own) where
   stable-due r ran place mark further more later leads =
       all-anywhere (StandsIn (settledList later)) (r .replies) place noReply (λ m. absurd (omega arith)) stand mark
     where
-      settled : settledList later ≡ run (settleDown (stepsOwed (p .last)) (model (p .last))) further .book .plan .committed
+      settled : settledList later ≡ run (idled (model (p .last))) further .book .plan .committed
       settled = ap (λ (q : Replica). q .book .plan .committed)
           (leads-model (ran .invariant) leads ∙ ap (λ (q : Replica). run q further) (ran .state))
 
@@ -115,7 +115,7 @@ module _ {panels own : ℕ} (p : PanelHistory panels own) where
 
       stand : All (StandsIn (settledList later)) (r .replies)
       stand = rw (ran .replies) (all-append (StandsIn (settledList later)) (repliesOwed (p .last)) (replicate zeros noReply)
-          (rw settled (due-replies-stand (stepsOwed (p .last)) (model (p .last)) further (last-sound p)))
+          (rw settled (due-replies-stand (owedShown (model (p .last))) (model (p .last)) further (last-sound p)))
           (zeros-stand (settledList later) zeros))
 
   pub panel-stable-replies : PanelStableReplies p

@@ -14,13 +14,13 @@ use Rattle.registers.specs.Replay.{replay}
 use Rattle.lists.specs.Lists.{keep, Ordered}
 use Rattle.creek.specs.declared.Answer.{Answer}
 use Rattle.creek.specs.Execution.{board, operations, owed, isIdle}
-use Rattle.creek.specs.Book.{Call, Book, refusal, noted, notedAll}
-use Rattle.creek.specs.Calls.{Replica, fresh, step, answer, bringsRequest, isCommit, isUndo, isExecute}
-use Rattle.creek.specs.History.{acceptedIn, dueCalls}
+use Rattle.creek.specs.Book.{Call, Book, notedAll}
+use Rattle.creek.specs.Calls.{fresh, bringsRequest, isCommit, isUndo, isExecute}
+use Rattle.creek.specs.History.{answersTo, refusals, acceptedIn, dueCalls}
 use Rattle.creek.specs.Showing.{requestsShown, commitsShown, undosShown, executionsShown, owedShown}
 use Rattle.creek.specs.Demand.{mostUndos}
 use Rattle.replica.specs.State.{State, Called}
-use Rattle.due.specs.Due.{Ran, noReply, replyIn, isAwaited, mostReplies, stepsOwed, RunDue}
+use Rattle.due.specs.Due.{Ran, noReply, replyIn, isAwaited, mostReplies, RunDue}
 use Rattle.steps.specs.declared.DueReply.{DueReply}
 use Rattle.replica.specs.Model.{model, Inv, Kept}
 
@@ -30,21 +30,11 @@ use Rattle.replica.specs.Model.{model, Inv, Kept}
 abbrev pub openedBook : ℕ → ℕ → Book
 openedBook panels own = fresh panels own .book
 
--- the refusal number of each call, 0 for an accepted one
-unfoldable pub refusals : Book → List Call → List ℕ
-refusals b [] = []
-refusals b (c ∷ cs) = refusal b c ∷ refusals (noted b c) cs
-
--- what each call answers; this takes the requests that await a reply, which the book does not have
-unfoldable pub answersTo : Replica → List Call → List Answer
-answersTo r [] = []
-answersTo r (c ∷ cs) = answer r c ∷ answersTo (step r c) cs
-
 -- ---- the panel
 
 -- the single steps that all due steps at once stand for on p: as many as it owes, each the step that is due then
 abbrev pub stepsDue : State → List Call
-stepsDue p = dueCalls (stepsOwed p) (model p .book)
+stepsDue p = dueCalls (owedShown (model p)) (model p .book)
 
 -- the answers that these would have had
 abbrev pub answersDue : State → List Answer

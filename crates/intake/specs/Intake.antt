@@ -8,7 +8,7 @@ use Rattle.request.specs.Refusal.{accepted}
 use Rattle.creek.specs.declared.Answer.{Answer}
 use Rattle.creek.specs.Book.{Call, Book, deliver, commit, isAccepted}
 use Rattle.creek.specs.Calls.{Replica, step, answer}
-use Rattle.creek.specs.Replies.{refusedWith}
+use Rattle.creek.specs.Replies.{done, refusedWith}
 use Rattle.replica.specs.declared.Core.{Core}
 use Rattle.replica.specs.declared.CallResult.{CallResult}
 use Rattle.replica.specs.State.{State, packed}
@@ -28,7 +28,7 @@ callOf (settlement n) = commit n
 -- the answer to it: the call's, the reader's refusal, or, at the end, zeros
 unfoldable pub answerTo : Replica → Outcome → Answer
 answerTo r (message m n) = answer r (callOf m)
-answerTo r end = refusedWith accepted noNumber
+answerTo r end = done
 answerTo r (refused w) = refusedWith w noNumber
 
 -- the replica after it; what cannot be read leaves it alone

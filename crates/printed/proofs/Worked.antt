@@ -17,7 +17,7 @@ use Rattle.creek.specs.Book.{refusal, accepted}
 use Rattle.creek.specs.Replies.{executionMark, executionReply, settlementReply}
 use Rattle.creek.specs.Replies.{stableReplyDue, acceptedAnswer, answerOf, acceptedAwaiting}
 use Rattle.creek.specs.Calls.{badShop, fresh, accept, step}
-use Rattle.creek.specs.History.{settleDown}
+use Rattle.creek.specs.History.{afterDueSteps}
 use Rattle.wire.specs.Integers.{integerAt}
 use Rattle.wire.specs.Layout.{layout, size, decode, sizeOf, fieldsAt}
 use Rattle.wire.specs.Message.{kindOf, messageFrom}
@@ -75,7 +75,7 @@ unfolding significant decimal restOfLine line sameNumber badNumber sameOperation
     sameWords sameContext allZero isEmpty namesFrom bit member join lackedWords difference subset offBoard added claimed exec replayOn
     replay entered committing committingFound deliverRefusal commitRefusal registers adjusted undone undoRefusal executedNext
     executeRefusal refusal accepted executionMark executionReply settlementReply stableReplyDue acceptedAnswer answerOf
-    acceptedAwaiting badShop fresh accept step settleDown integerAt layout size decode sizeOf fieldsAt kindOf messageFrom lengthAt
+    acceptedAwaiting badShop fresh accept step afterDueSteps integerAt layout size decode sizeOf fieldsAt kindOf messageFrom lengthAt
     kindAt spareAt refusalAs readAs readAt boardLine messageLine totalsLine registerLine lineUnlessZero registerLinesFrom
     registerLines found callOf after afterAll numberIn lineOfMessage lineFor refusalIn messageLines closing printoutOf printout ascii
 printout-worked = refl

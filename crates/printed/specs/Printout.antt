@@ -6,9 +6,9 @@ use lib.ListN.{length, getD}
 use lib.Dec.{ltb}
 use Rattle.numbers.specs.declared.Number.{Number}
 use Rattle.request.specs.Refusal as refusal
-use Rattle.creek.specs.Execution.{registers, owed}
+use Rattle.creek.specs.Execution.{registers}
 use Rattle.creek.specs.Calls.{Replica, badShop, fresh, step, answer}
-use Rattle.creek.specs.History.{settleDown}
+use Rattle.creek.specs.History.{idled}
 use Rattle.creek.specs.Showing.{undosShown, executionsShown}
 use Rattle.wire.specs.declared.Reading.{Reading}
 use Rattle.wire.specs.declared.Answer.{Answer}
@@ -57,10 +57,6 @@ abbrev pub foundFrom : List ℕ → ℕ → List Outcome
 foundFrom s at = found s at 0 (length s - at)
 
 -- ---- the replica
-
--- due steps are called until the replica is idle
-abbrev pub idled : Replica → Replica
-idled r = settleDown (owed (r .book .execution)) r
 
 -- the replica after what was found; what cannot be read leaves it alone
 unfoldable pub after : Replica → Outcome → Replica

@@ -67,7 +67,7 @@ model q = record {
   book = bookOf q;
   awaiting = q .awaiting;
   commits = q .commits;
-  counters = record { undos = q .counters .undos; executions = q .counters .executions };
+  counters = q .counters;
 }
 
 -- ---- the invariant

@@ -15,6 +15,8 @@ pub mod showing;
 use counters::Counters;
 use creek::Answer;
 use creek::mark::NOBODY;
+use creek::mark::STABLE;
+use creek::mark::WEAK;
 use numbers::Clock;
 use numbers::EventNo;
 use numbers::Number;
@@ -22,11 +24,13 @@ use numbers::PanelNo;
 use request::Operation;
 use request::Request;
 use request::refusal;
+use store::members;
 ghost use mathlib.Core.Path.{_≡_};
 ghost use Prim.Native.Nat.{min};
 ghost use Rattle.numbers.specs.Numbers.{noNumber};
+ghost use Rattle.sets.specs.Sets.{setOf};
 ghost use Rattle.creek.specs.Calls.{badShop};
-ghost use Rattle.creek.specs.Replies.{noRequest, refusedWith, reply as replyOf};
+ghost use Rattle.creek.specs.Replies.{noRequest, refusedWith, reply as replyOf, done as doneOf, awaitingAfter};
 ghost use Rattle.replica.specs.State.{firstCore};
 ghost use Rattle.replica.specs.Fresh.{FreshKept};
 
@@ -203,5 +207,25 @@ pub fn reply(n: Number, response: u32, mark: u8) -> Answer
         number: n,
         response,
         mark,
+    }
+}
+
+// The answer of an accepted call that has nothing to say.
+pub fn done() -> Answer
+    ensures { λ a. ⌜ a ≡ doneOf ⌝ }
+{
+    let none = Number {
+        panel: PanelNo(0),
+        event: EventNo(0),
+    };
+    reply(none, 0, NOBODY)
+}
+
+// Takes n from those who await a reply after one with that mark: weak and stable end the waiting.
+pub fn end_waiting(awaiting: &mut [u64; 8], n: Number, mark: u8)
+    ensures { λ _. ⌜ setOf (now (awaiting .exit)) ≡ awaitingAfter (setOf (now (awaiting .entry))) n mark ⌝ }
+{
+    if (mark == WEAK) | (mark == STABLE) {
+        members::leave(awaiting, n);
     }
 }

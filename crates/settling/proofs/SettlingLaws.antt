@@ -14,7 +14,6 @@ use Rattle.numbers.specs.declared.Number.{Number}
 use Rattle.request.specs.declared.Request.{Request}
 use Rattle.numbers.specs.Numbers.{noNumber}
 use Rattle.sets.specs.Sets.{setOf, member, join}
-use Rattle.sets.proofs.SetLaws.{leave-length, member-leave}
 use Rattle.lists.specs.Lists.{find, commonStart}
 use Rattle.lists.proofs.BoolLaws.{true-not-false, both-true}
 use Rattle.lists.proofs.ListLaws.{count-most}
@@ -24,15 +23,17 @@ use Rattle.slots.proofs.SlotLaws.{common-from}
 use Rattle.creek.specs.declared.Answer.{Answer}
 use Rattle.creek.specs.Plan.{hasNumber, lastEvent, lastClock, committing, committingFound}
 use Rattle.creek.specs.Stack.{stacked}
-use Rattle.creek.specs.Book.{Call, commit, Book, refusal, isAccepted, accepted, planned}
-use Rattle.creek.specs.Replies.{stableMark, reply, done, stableReplyDue, settlementReply, acceptedAnswer, answerOf, awaitingAfter, acceptedAwaiting}
-use Rattle.creek.specs.Calls.{Replica, accept, step}
+use Rattle.creek.specs.Book.{commit, Book, refusal, isAccepted, accepted, planned}
+use Rattle.creek.specs.Replies.{stableMark, reply, done, stableReplyDue, settlementReply, acceptedAnswer, awaitingAfter, acceptedAwaiting}
+use Rattle.creek.specs.Calls.{accept, step}
 use Rattle.creek.specs.Sound.{Sound, mostRequests}
+use Rattle.creek.proofs.CallLaws.{answer-accepted, step-accepted}
+use Rattle.creek.proofs.AwaitingLaws.{awaiting-length, awaited-before}
 use Rattle.creek.proofs.LookupLaws.{lastEvent-committing, lastClock-committing}
 use Rattle.creek.proofs.SoundLaws.{step-sound}
 use Rattle.replica.specs.State.{State}
 use Rattle.replica.specs.Model.{orderOf, boardOf, planOf, bookOf, model, Inv, Kept}
-use Rattle.settling.specs.Settling.{settledAnswer, awaitingSettled}
+use Rattle.settling.specs.Settling.{settledAnswer}
 use Rattle.replica.proofs.States.{settledState}
 use Rattle.replica.proofs.ModelLaws.{executed-asks, executed-follows}
 use Rattle.settling.proofs.SettlingHeldLaws.{keptAt, numberAt, contextAt, sound-plan, HeldAt, held-slot, held-number}
@@ -54,17 +55,7 @@ commits-fit p inv =
       inv .sound .few,
     )
 
--- ---- an accepted call
-
-answer-accepted : (b : Book) (awaiting : Context) (c : Call) → isAccepted b c ≡ true → answerOf b awaiting c ≡ acceptedAnswer b awaiting c
-unfolding answerOf
-answer-accepted b awaiting c e = rw e
-
-step-accepted : (r : Replica) (c : Call) → isAccepted (r .book) c ≡ true → step r c ≡ accept r c
-unfolding step
-step-accepted r c e = rw e
-
--- ---- the answer and who awaits, by whether a stable reply is due
+-- ---- the answer, by whether a stable reply is due
 
 same-answer : (b due : Bool) (v w : ℕ) → due ≡ b → (due ≡ true → v ≡ w)
     → cond b (reply noNumber w stableMark) done ≡ settledAnswer due v
@@ -73,22 +64,6 @@ same-answer false false v w e h = refl
 same-answer true false v w e h = true-not-false e refl
 same-answer false true v w e h = true-not-false refl e
 
-same-awaiting : (due : Bool) (v : ℕ) (awaiting : Context) (n : Number)
-    → awaitingAfter awaiting n (settledAnswer due v .mark) ≡ awaitingSettled due awaiting n
-same-awaiting true v awaiting n = refl
-same-awaiting false v awaiting n = refl
-
-awaiting-length : (due : Bool) (awaiting : Context) (n : Number)
-    → length (awaitingSettled due awaiting n .words) ≡ length (awaiting .words)
-awaiting-length true awaiting n = leave-length awaiting n
-awaiting-length false awaiting n = refl
-
--- who awaits afterwards did before
-awaited-before : (due : Bool) (awaiting : Context) (n m : Number) → member (awaitingSettled due awaiting n) m ≡ true
-    → member awaiting m ≡ true
-awaited-before true awaiting n m e = both-true _ _ (sym (member-leave awaiting n m) ∙ e) .0
-awaited-before false awaiting n m e = e
-
 -- ---- the outcome, under the number of the request at slot s
 
 module _ {p : State} {s : ℕ} {order : List ℕ} {committed executed : ℕ} (h : Settlement p s order committed executed)
@@ -96,7 +71,7 @@ module _ {p : State} {s : ℕ} {order : List ℕ} {committed executed : ℕ} (h 
     {response : ℕ} (kept : response ≡ getD (p .responses) (committed - 1) 0)
     {due : Bool} (awaited : due ≡ (member (p .awaiting) (numberAt p s) && leb committed executed))
     {known : List ℕ} (joined : setOf known ≡ join (p .known) (numberAt p s))
-    {awaiting : List ℕ} (left : setOf awaiting ≡ awaitingSettled due (p .awaiting) (numberAt p s)) where
+    {awaiting : List ℕ} (left : setOf awaiting ≡ awaitingAfter (p .awaiting) (numberAt p s) (settledAnswer due response .mark)) where
   abbrev inv : Inv p
   inv = h .invariant
 
@@ -137,8 +112,7 @@ module _ {p : State} {s : ℕ} {order : List ℕ} {committed executed : ℕ} (h 
   awaiting-then : acceptedAwaiting (bookOf p) (p .awaiting) (commit (numberAt p s)) ≡ setOf awaiting
   unfolding acceptedAwaiting
   awaiting-then =
-      ap (λ (a : Answer). awaitingAfter (p .awaiting) (numberAt p s) (a .mark)) answer-then
-      ∙ same-awaiting due response (p .awaiting) (numberAt p s) ∙ sym left
+      ap (λ (a : Answer). awaitingAfter (p .awaiting) (numberAt p s) (a .mark)) answer-then ∙ sym left
 
   accept-then : model q ≡ accept (model p) (commit (numberAt p s))
   unfolding model accept
@@ -172,7 +146,7 @@ module _ {p : State} {s : ℕ} {order : List ℕ} {committed executed : ℕ} (h 
       saved = inv .lengths .saved;
       responses = inv .lengths .responses;
       held = inv .lengths .held;
-      awaiting = ap (λ (c : Context). length (c .words)) left ∙ awaiting-length due (p .awaiting) (numberAt p s) ∙ inv .lengths .awaiting;
+      awaiting = ap (λ (c : Context). length (c .words)) left ∙ awaiting-length (p .awaiting) (numberAt p s) (settledAnswer due response .mark) ∙ inv .lengths .awaiting;
     };
     held = λ t slot. order-count h (eqb t) ∙ inv .held t slot;
     order-slots = order-slots-then h;
@@ -181,7 +155,8 @@ module _ {p : State} {s : ℕ} {order : List ℕ} {committed executed : ℕ} (h 
     events = inv .events ∙ sym (ap lastEvent plan-then ∙ lastEvent-committing (planOf p) (keptAt p s) (h .found) (sound-plan inv));
     clock = inv .clock ∙ sym (ap lastClock plan-then ∙ lastClock-committing (planOf p) (keptAt p s) (h .found) (sound-plan inv));
     awaiting-own = λ n e.
-        inv .awaiting-own n (awaited-before due (p .awaiting) (numberAt p s) n (ap (λ (c : Context). member c n) (sym left) ∙ e));
+        inv .awaiting-own n
+        (awaited-before (p .awaiting) (numberAt p s) (settledAnswer due response .mark) n (ap (λ (c : Context). member c n) (sym left) ∙ e));
     sound = subst Sound (sym state-then) (step-sound (model p) (commit (numberAt p s)) (inv .sound));
   }
 
@@ -238,10 +213,10 @@ module _ {p : State} {n : Number} {s : ℕ} (inv : Inv p) (here : HeldAt p n s) 
       → response ≡ getD (p .responses) (committed - 1) 0
       → due ≡ (member (p .awaiting) n && leb committed executed)
       → setOf known ≡ join (p .known) n
-      → setOf awaiting ≡ awaitingSettled due (p .awaiting) n
       → a ≡ settledAnswer due response
+      → setOf awaiting ≡ awaitingAfter (p .awaiting) n (a .mark)
       → Kept p (commit n) (record { answer = a; state = settledState p order committed executed known awaiting })
-  settled-kept {order} {committed} {executed = executed} {due = due} {known} {awaiting} {a} d lowest common kept awaited joined left answered =
+  settled-kept {order} {committed} {executed = executed} {response} {due} {known} {awaiting} {a} d lowest common kept awaited joined answered left =
       let number : n ≡ numberAt p s = sym (held-number inv here) in
       let h : Settlement p s order committed executed =
       record { invariant = inv; slot = held-slot inv here; found = found; settled = d; common = common ∙ common-is d lowest } in
@@ -250,4 +225,5 @@ module _ {p : State} {n : Number} {s : ℕ} (inv : Inv p) (here : HeldAt p n s) 
       (settled-under h taken kept
       (awaited ∙ ap (λ (m : Number). member (p .awaiting) m && leb committed executed) number)
       (joined ∙ ap (join (p .known)) number)
-      (left ∙ ap (awaitingSettled due (p .awaiting)) number) answered)
+      (left ∙ ap (λ (b : Answer). awaitingAfter (p .awaiting) n (b .mark)) answered
+      ∙ ap (λ (m : Number). awaitingAfter (p .awaiting) m (settledAnswer due response .mark)) number) answered)

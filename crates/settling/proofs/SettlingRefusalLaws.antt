@@ -14,7 +14,7 @@ use Rattle.lists.specs.Lists.{find}
 use Rattle.creek.specs.declared.Answer.{Answer}
 use Rattle.creek.specs.Plan.{met, hasNumber, held, isCommitted, foundRefusal, commitRefusal}
 use Rattle.creek.specs.Book.{commit, refusal}
-use Rattle.creek.specs.Replies.{refusedWith, missing, namedByRefusal}
+use Rattle.creek.specs.Replies.{done, refusedWith, missing, namedByRefusal}
 use Rattle.creek.proofs.PlanLaws.{passed}
 use Rattle.replica.specs.State.{State}
 use Rattle.store.specs.Requests.{requestAt}
@@ -83,7 +83,7 @@ abbrev answerTo : Bool → Bool → Bool → Number → Answer
 answerTo strong known whole m =
     cond (not strong) (refusedWith refused.weak noNumber)
     (cond known (refusedWith refused.settledAlready noNumber)
-    (cond (not whole) (refusedWith refused.waits m) (refusedWith refused.accepted noNumber)))
+    (cond (not whole) (refusedWith refused.waits m) done))
 
 -- the request at slot s is to be settled under the number n: it is strong, it is not known, and its context is
 pub record Settles (p : State) (n : Number) (s : ℕ) : Type 0 where

@@ -6,7 +6,7 @@ use mathlib.Core.List.{List}
 use Rattle.sets.specs.declared.Context.{Context}
 use Rattle.numbers.specs.declared.Number.{Number}
 use Rattle.numbers.specs.Numbers.{noNumber, badNumber}
-use Rattle.sets.specs.Sets.{member, leave, subset, lowestLacking}
+use Rattle.sets.specs.Sets.{member, subset, lowestLacking}
 use Rattle.request.specs.Refusal as refused
 use Rattle.creek.specs.declared.Answer.{Answer}
 use Rattle.creek.specs.Plan.{met}
@@ -28,15 +28,11 @@ heldAnswer strong context known n =
     cond (not strong) (refusedWith refused.weak noNumber)
     (cond (member known n) (refusedWith refused.settledAlready noNumber)
     (cond (not (subset context known)) (refusedWith refused.waits (lowestLacking context known))
-    (refusedWith refused.accepted noNumber)))
+    done))
 
 -- the answer of an accepted settlement: where a stable reply is due, that with the response
 abbrev pub settledAnswer : Bool → ℕ → Answer
 settledAnswer due response = cond due (reply noNumber response stableMark) done
-
--- who awaits a reply afterwards: n no more, where its stable reply was due
-abbrev pub awaitingSettled : Bool → Context → Number → Context
-awaitingSettled due awaiting n = cond due (leave awaiting n) awaiting
 
 -- ---- over the parts of a panel
 

@@ -17,7 +17,7 @@ ghost use mathlib.Core.Path.{_≡_};
 ghost use Rattle.sets.specs.Sets.{setOf};
 ghost use Rattle.request.specs.Refusal as refusedBy;
 ghost use Rattle.creek.specs.Replies.{refusedWith};
-ghost use Rattle.settling.specs.Settling.{numberRefusal, heldAnswer, settledAnswer, awaitingSettled, CommitAsks, CommitKept};
+ghost use Rattle.settling.specs.Settling.{numberRefusal, heldAnswer, settledAnswer, CommitAsks, CommitKept};
 
 // Settle the request of number n.
 pub fn commit<'a>(
@@ -63,12 +63,12 @@ pub fn commit<'a>(
     let awaited = members::member(awaiting, n);
     let due = awaited & (committed <= executed);
     members::join(known, n);
-    end_waiting(due, awaiting, n);
+    let answer = settled_answer(due, response);
+    replica::end_waiting(awaiting, n, answer.mark);
     let mut after = core;
     after.committed = committed;
     after.executed = executed;
     after.commits = core.commits + 1;
-    let answer = settled_answer(due, response);
     CallResult {
         core: after,
         answer,
@@ -104,7 +104,7 @@ fn held_answer(strong: bool, context: Context, known: Context, n: Number) -> Ans
         let missing = sets::lowest_lacking(context, known);
         return waiting(missing);
     }
-    replica::refused(refusal::ACCEPTED)
+    replica::done()
 }
 
 // The answer of refusal 12, which names the missing number.
@@ -132,13 +132,4 @@ fn settled_answer(due: bool, response: u32) -> Answer
         return replica::reply(none, response, STABLE);
     }
     replica::reply(none, 0, NOBODY)
-}
-
-// Takes n from those who await a reply, where its stable reply was due.
-fn end_waiting(due: bool, awaiting: &mut [u64; 8], n: Number)
-    ensures { λ _. ⌜ setOf (now (awaiting .exit)) ≡ awaitingSettled due (setOf (now (awaiting .entry))) n ⌝ }
-{
-    if due {
-        members::leave(awaiting, n);
-    }
 }

@@ -40,7 +40,8 @@ use Rattle.sheet.specs.declared.Ended.{Ended}
 use Rattle.wire.proofs.HeldLaws.{said-settlement, said-request}
 use Rattle.intake.specs.Intake.{callOf}
 use Rattle.intake.proofs.ReadingLaws.{message-only, end-only, refused-only}
-use Rattle.printed.specs.Printout.{takenOf, idled, after, afterAll, refusalIn, numberIn, lineOfMessage, lineFor, foundFrom, messageLines}
+use Rattle.creek.specs.History.{idled}
+use Rattle.printed.specs.Printout.{takenOf, after, afterAll, refusalIn, numberIn, lineOfMessage, lineFor, foundFrom, messageLines}
 use Rattle.printed.specs.Printout.{shopBytes, leastMessage, mostMessages, mostInput, closing, printoutOf, printout}
 use Rattle.sheet.specs.Putting.{Stands, HeardOf, TakenIn, HeardAs, LinePut, AllPut}
 use Rattle.printed.proofs.FoundLaws.{bytesOf, Takes, whole, all, takes, taken-within, one-found, none-found}

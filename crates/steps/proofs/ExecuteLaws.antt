@@ -4,23 +4,21 @@ use Prim.{tt}
 use Prim.Native.Nat.{ℕ, suc, _+_, _<_}
 use native.Mathlib.Omega.{arith}
 use native.Mathlib.Numerals.{add-one}
-use mathlib.Core.Path.{_≡_, refl, sym, ap, _∙_}
-use mathlib.Core.Bool.{Bool, true, false, cond}
+use mathlib.Core.Path.{_≡_, sym, ap, _∙_}
+use mathlib.Core.Bool.{Bool}
 use mathlib.Core.List.{List, [], _∷_, _++_, map-append}
 use lib.ListN.{length, take, drop, getD, set, length-set}
 use lib.Seq.{take-suc-set}
 use lib.Dec.{ltb}
 use Rattle.lists.proofs.AllLaws.{all-append}
-use Rattle.lists.proofs.BoolLaws.{both-true}
 use Rattle.sets.specs.declared.Context.{Context}
 use Rattle.numbers.specs.declared.Number.{Number}
 use Rattle.request.specs.declared.Operation.{Operation}
 use Rattle.request.specs.declared.Request.{Request}
-use Rattle.numbers.specs.Numbers.{mostPanels, numberOf}
-use Rattle.sets.specs.Sets.{setOf, member, leave}
+use Rattle.numbers.specs.Numbers.{numberOf}
+use Rattle.sets.specs.Sets.{setOf, member}
 use Rattle.request.specs.Refusal as refused
 use Rattle.numbers.proofs.NumberLaws.{sameNumber-self}
-use Rattle.sets.proofs.SetLaws.{leave-length, member-leave}
 use Rattle.registers.specs.Effect.{response, Executed}
 use Rattle.registers.specs.Rollback.{savedOf, savedIn}
 use Rattle.slots.specs.Slots.{IsSlot}
@@ -29,9 +27,10 @@ use Rattle.creek.specs.Plan.{order, hasNumber, isCommitted}
 use Rattle.creek.specs.Execution.{operations, registers, executedNext, executeRefusal}
 use Rattle.creek.specs.Stack.{stacked}
 use Rattle.creek.specs.Book.{execute, refusal, accepted}
-use Rattle.creek.specs.Replies.{reply, markOf, executionMark, executionReply, acceptedAnswer, endsWaiting, awaitingAfter, acceptedAwaiting}
+use Rattle.creek.specs.Replies.{reply, markOf, executionMark, executionReply, acceptedAnswer, awaitingAfter, acceptedAwaiting}
 use Rattle.creek.specs.Calls.{accept}
 use Rattle.creek.specs.Sound.{Sound}
+use Rattle.creek.proofs.AwaitingLaws.{awaiting-length, awaited-before}
 use Rattle.creek.proofs.StackLaws.{stacked-executed}
 use Rattle.counters.specs.declared.Counters.{Counters}
 use Rattle.replica.specs.State.{State}
@@ -61,30 +60,6 @@ nextMark p = markOf (member (p .awaiting) (numberOf (nextSlot p))) (nextStrong p
 pub record NextReply (p : State) (n : Number) (m : ℕ) : Type 0 where
   pub number : n ≡ numberOf (nextSlot p)
   pub mark : m ≡ nextMark p
-
-pub next-reply : (p : State) (n : Number) (awaited : Bool) (mark : ℕ) → n ≡ numberOf (nextSlot p) → awaited ≡ member (p .awaiting) n
-    → mark ≡ markOf awaited (nextStrong p) (ltb (p .executed) (p .committed)) → NextReply p n mark
-next-reply p n awaited mark e f g = record {
-  number = e;
-  mark =
-      g ∙ ap (λ (b : Bool). markOf b (nextStrong p) (ltb (p .executed) (p .committed))) (f ∙ ap (member (p .awaiting)) e);
-}
-
--- a reply only ends waiting
-awaiting-less : (awaiting : Context) (n m : Number) (mark : ℕ) → length (awaiting .words) ≡ mostPanels
-    → member (awaitingAfter awaiting n mark) m ≡ true → member awaiting m ≡ true
-awaiting-less awaiting n m mark long h = go (endsWaiting mark) h
-  where
-    go : (b : Bool) → member (cond b (leave awaiting n) awaiting) m ≡ true → member awaiting m ≡ true
-    go true h = both-true (member awaiting m) _ (sym (member-leave awaiting n m) ∙ h) .0
-    go false h = h
-
-awaiting-length : (awaiting : Context) (n : Number) (mark : ℕ) → length (awaitingAfter awaiting n mark .words) ≡ length (awaiting .words)
-awaiting-length awaiting n mark = go (endsWaiting mark)
-  where
-    go : (b : Bool) → length (cond b (leave awaiting n) awaiting .words) ≡ length (awaiting .words)
-    go true = leave-length awaiting n
-    go false = refl
 
 module _ (p : State) (inv : Inv p) where
   pub execute-undo-first : p .executed < p .stacked → refusal (bookOf p) execute ≡ refused.undoFirst
@@ -216,7 +191,7 @@ module _ (p : State) (inv : Inv p) where
             clock = inv .clock;
             awaiting-own = λ n h.
                 inv .awaiting-own n
-                (awaiting-less (p .awaiting) (numberOf (nextSlot p)) n (nextMark p) (long .awaiting)
+                (awaited-before (p .awaiting) (numberOf (nextSlot p)) (nextMark p) n
                 (ap (λ (a : Context). member a n) (sym waits) ∙ h));
             sound = sound;
           }

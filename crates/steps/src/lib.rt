@@ -14,9 +14,8 @@ use store::members;
 use store::requests;
 ghost use mathlib.Core.Path.{_≡_};
 ghost use Prim.Native.Nat.{_<_};
-ghost use Rattle.sets.specs.Sets.{setOf};
 ghost use Rattle.slots.specs.Slots.{mostSlots};
-ghost use Rattle.creek.specs.Replies.{awaitingAfter, markOf};
+ghost use Rattle.creek.specs.Replies.{markOf};
 ghost use Rattle.steps.specs.Steps.{UndoAsks, UndoKept, TopAsks, TakenOff, ExecuteAsks, ExecuteKept, PutOn};
 
 // What a step returns: the core after it, how many steps were done, which is 1 or, where it was refused, 0, and its answer.
@@ -171,7 +170,7 @@ pub fn put_on(
     let number = numbers::number_of(slot);
     let awaited = members::member(awaiting, number);
     let mark = mark_of(awaited, strong, at < committed);
-    end_waiting(awaiting, number, mark);
+    replica::end_waiting(awaiting, number, mark);
     DueReply {
         number,
         response,
@@ -193,13 +192,4 @@ fn mark_of(awaited: bool, strong: bool, committed: bool) -> u8
         return WEAK;
     }
     NOBODY
-}
-
-// Takes n from those who await a reply after one with that mark: weak and stable end the waiting.
-fn end_waiting(awaiting: &mut [u64; 8], n: Number, mark: u8)
-    ensures { λ _. ⌜ setOf (now (awaiting .exit)) ≡ awaitingAfter (setOf (now (awaiting .entry))) n mark ⌝ }
-{
-    if (mark == WEAK) | (mark == STABLE) {
-        members::leave(awaiting, n);
-    }
 }

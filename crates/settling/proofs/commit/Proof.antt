@@ -42,6 +42,14 @@ tested c = c .before .before .before .before
 abbrev settled : tie.After-common-start → tie.After-settle-order
 settled c = c .before .before .before
 
+-- where the order is compared with the executed list, from where the number has joined the known ones
+abbrev adjusted : tie.After-join → tie.After-common-start
+adjusted c = c .before .before .before .before .before
+
+-- where it has joined them, from where the waiting is ended
+abbrev joined : tie.After-end-waiting → tie.After-join
+joined c = c .before .before .before
+
 -- a panel with the parts lent
 abbrev lent : tie.Start → State → State
 lent a p =
@@ -175,38 +183,36 @@ member-requires c κs = search needs
 join-requires : tie.Need-join-requires
 join-requires c κs = search needs
 
+settled-answer-requires : tie.Need-settled-answer-requires
+settled-answer-requires c κs = search needs
+
 end-waiting-requires : tie.Need-end-waiting-requires
 end-waiting-requires c κs = search needs
 
 add-after : tie.Need-add-after
 add-after c =
-    let adjusted = c .before .before .before .before .before .before .before .before in
-    let a = start (slotted (tested (settled adjusted))) in
+    let a = start (slotted (tested (settled (adjusted (joined (c .before)))))) in
     omega (arith, commits-fit (lent a (a .pre .panel)) (a .pre .invariant))
-
-settled-answer-requires : tie.Need-settled-answer-requires
-settled-answer-requires c κs = search needs
 
 returns-3 : tie.Need-returns-3
 returns-3 c =
-    let left = c .before .before in
-    let joined = left .before .before in
-    let awaited = joined .before .before in
-    let adjusted = awaited .before .before .before in
-    let order = settled adjusted in
+    let left = c .before in
+    let known = joined left in
+    let start-found = adjusted known in
+    let order = settled start-found in
     let slot = slotted (tested order) in
     let a = start slot in
     record {
       kept = λ p inv.
           settled-kept {p = lent a p} inv (held-at slot p inv) (to-settle (tested order) p inv)
           (settled-by order)
-          (adjusted .before .before .lower .ensures)
-          (adjusted .common-start .ensures)
+          (start-found .before .before .lower .ensures)
+          (start-found .common-start .ensures)
           refl
-          (ap (λ (b : Bool). b && leb (order .settle-order .result) (adjusted .common-start .result)) (awaited .member .ensures))
-          (joined .join .ensures)
-          (left .end-waiting .ensures)
-          (c .settled-answer .ensures);
+          (ap (λ (b : Bool). b && leb (order .settle-order .result) (start-found .common-start .result)) (known .before .before .member .ensures))
+          (known .join .ensures)
+          (left .before .before .settled-answer .ensures)
+          (left .end-waiting .ensures);
     }
 
 pub commit-spec : {M : Type 1} → statement M
@@ -231,7 +237,7 @@ commit-spec =
     element-copy-out-response
     member-requires
     join-requires
+    settled-answer-requires
     end-waiting-requires
     add-after
-    settled-answer-requires
     returns-3)

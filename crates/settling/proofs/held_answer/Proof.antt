@@ -43,8 +43,8 @@ returns-3 c =
       ap not (sym (missing .before .before .is-subset .ensures)) ∙ missing .before .if3 .taken,
     ) (c .waiting .ensures ∙ rw (missing .lowest-lacking .ensures))
 
-refused-requires-3 : tie.Need-refused-requires-3
-refused-requires-3 c κs = search needs
+done-requires : tie.Need-done-requires
+done-requires c κs = search needs
 
 returns-4 : tie.Need-returns-4
 unfolding heldAnswer
@@ -54,7 +54,7 @@ returns-4 c =
       here .before .before .if1 .left,
       sym (here .before .member .ensures) ∙ here .if2 .left,
       ap not (sym (c .before .before .is-subset .ensures)) ∙ c .before .if3 .left,
-    ) (c .refused3 .ensures)
+    ) (c .done .ensures)
 
 pub held-answer-spec : {M : Type 1} → statement M
 held-answer-spec =
@@ -69,5 +69,5 @@ held-answer-spec =
     lowest-lacking-requires
     waiting-requires
     returns-3
-    refused-requires-3
+    done-requires
     returns-4)

@@ -1,7 +1,7 @@
--- `steps::end_waiting` meets its contract.
+-- `replica::end_waiting` meets its contract.
 use borrow.Author.Needs.{needs}
-use Rattle.steps.proofs.end_waiting.Statement.{statement}
-use Rattle.steps.proofs.end_waiting.Tie as tie
+use Rattle.replica.proofs.end_waiting.Statement.{statement}
+use Rattle.replica.proofs.end_waiting.Tie as tie
 
 leave-requires : tie.Need-leave-requires
 leave-requires c κs = search needs
