@@ -6,17 +6,13 @@ use mathlib.Core.Path.{_≡_, refl, sym, ap, _∙_}
 use mathlib.Core.List.{List, [], _∷_, _++_, reverse, reverse-cons, append-assoc, reverse-append, reverse-reverse}
 use lib.ListN.{length, take, drop, length-append, length-take, take-append-drop}
 use lib.Seq.{take-take, drop-drop, take-length, drop-length, take-append-le, drop-append-le}
-use Rattle.numbers.specs.declared.Number.{Number}
 use Rattle.request.specs.declared.Request.{Request}
 use Rattle.request.specs.Request.{sameRequest}
-use Rattle.lists.specs.Lists.{count, commonStart}
-use Rattle.creek.specs.Plan.{hasNumber}
+use Rattle.lists.specs.Lists.{commonStart}
 use Rattle.creek.specs.Execution.{Execution, board, adjusted, undone, executedNext}
 use Rattle.creek.specs.Stack.{stacked}
-use Rattle.creek.specs.Calls.{Replica}
-use Rattle.creek.specs.Sound.{Sound}
 use Rattle.lists.proofs.ListLaws.{commonStart-most}
-use Rattle.creek.proofs.ExecutionLaws.{board-count, board-executed}
+use Rattle.creek.proofs.ExecutionLaws.{board-executed}
 
 -- ---- the stack
 
@@ -87,8 +83,3 @@ unfolding executedNext
 board-execution e x xs none h =
     board-executed (executedNext e) none ∙ ap (λ (l : List Request). e .executed ++ take 1 l) h
     ∙ ap (λ (l : List Request). l ++ x ∷ []) (sym (board-executed e none))
-
--- the executed list and the rollback list have no number in common, and neither has one twice
-pub board-distinct : (r : Replica) → Sound r → (n : Number)
-    → count (hasNumber n) (r .book .execution .executed) + count (hasNumber n) (r .book .execution .rollback) ≤ 1
-board-distinct r i n = omega (arith, board-count (hasNumber n) (r .book .execution), i .board-held (hasNumber n), i .plan .held .distinct n)

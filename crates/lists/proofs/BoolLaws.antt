@@ -1,6 +1,6 @@
 -- What a test that is a conjunction, a disjunction or a choice says of its parts, and the other way round.
 use mathlib.Core.Path.{_≡_, refl, sym, ap, _∙_}
-use mathlib.Core.Bool.{Bool, true, false, not, _&&_, _||_, Bool·beq, cond, true≢false}
+use mathlib.Core.Bool.{Bool, true, false, _&&_, _||_, Bool·beq, cond, true≢false}
 
 -- nothing is both true and false
 pub true-not-false : {b : Bool} {X : Type 0} → b ≡ true → b ≡ false → X

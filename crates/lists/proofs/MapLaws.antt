@@ -1,16 +1,13 @@
 -- Laws of lists under a map, and of tests that agree on every element: what is counted, kept, found, inserted or common is the
 -- same.
 use Prim.Native.Nat.{ℕ, suc, zero, _+_}
-use mathlib.Core.Path.{_≡_, refl, sym, ap, _∙_}
-use mathlib.Core.Bool.{Bool, true, false, not, cond}
+use mathlib.Core.Path.{_≡_, refl, ap, _∙_}
+use mathlib.Core.Bool.{Bool, true, false, cond}
 use mathlib.Core.List.{List, [], _∷_, map, map-append}
 use mathlib.Core.Option.{Option, Option·map}
 use lib.ListN.{take, drop}
-use lib.Seq.{slice}
-use Rattle.lists.specs.Lists.{one, count, consIf, keep, someIf, find, insert, commonStart}
+use Rattle.lists.specs.Lists.{one, count, consIf, keep, someIf, find, commonStart}
 use Rattle.lists.specs.Places.{All, leading, insertAt}
-use Rattle.lists.proofs.AllLaws.{all-weaken}
-use Rattle.lists.proofs.PlaceLaws.{insert-place}
 
 -- ---- parts
 
@@ -24,9 +21,6 @@ module _ {A B : Type 0} (f : A → B) where
   map-drop zero l = refl
   map-drop (suc n) [] = refl
   map-drop (suc n) (x ∷ xs) = map-drop n xs
-
-  pub map-slice : (from to : ℕ) (l : List A) → map f (slice from to l) ≡ slice from to (map f l)
-  map-slice from to l = map-drop from (take to l) ∙ ap (drop from) (map-take to l)
 
   pub map-insertAt : (k : ℕ) (x : A) (l : List A) → map f (insertAt k x l) ≡ insertAt k (f x) (map f l)
   unfolding insertAt
@@ -88,18 +82,3 @@ module _ {A : Type 0} (p q : A → Bool) where
   pub leading-agree : (l : List A) → All (λ x. p x ≡ q x) l → leading p l ≡ leading q l
   leading-agree [] a = refl
   leading-agree (x ∷ xs) a = rw (a .0, leading-agree xs (a .1))
-
--- ---- both: a test on images that agrees with one on the elements
-
-module _ {A B : Type 0} (f : A → B) where
-  pub keep-map-agree : (p : B → Bool) (q : A → Bool) (l : List A) → All (λ x. p (f x) ≡ q x) l → keep p (map f l) ≡ map f (keep q l)
-  keep-map-agree p q l a = keep-map f p l ∙ ap (map f) (keep-agree (λ x. p (f x)) q l a)
-
-  -- insertion in an order of images is insertion at the place that the test on the elements gives
-  pub insert-map-agree : (before : B → B → Bool) (q : A → Bool) (x : A) (l : List A) → All (λ y. before (f x) (f y) ≡ q y) l
-      → insert before (f x) (map f l) ≡ map f (insertAt (leading (λ y. not (q y)) l) x l)
-  insert-map-agree before q x l a =
-      let place = leading-map f (λ y. not (before (f x) y)) l
-      ∙ leading-agree (λ y. not (before (f x) (f y))) (λ y. not (q y)) l (all-weaken (λ y e. ap not e) l a) in
-      insert-place before (f x) (map f l) ∙ ap (λ (k : ℕ). insertAt k (f x) (map f l)) place
-      ∙ sym (map-insertAt f (leading (λ y. not (q y)) l) x l)

@@ -5,8 +5,8 @@ use native.Mathlib.Omega.{arith}
 use mathlib.Core.Path.{_≡_, refl, sym, ap, _∙_}
 use mathlib.Core.Bool.{Bool, true, false}
 use mathlib.Core.List.{List, _∷_}
-use lib.ListN.{length, take, getD, set}
-use lib.Seq.{slice, getD-set-other}
+use lib.ListN.{length, take, getD}
+use lib.Seq.{slice}
 use lib.Dec.{eqb, ltb}
 use borrow.Author.Tests.{eq-eqb, ne-eqb, eqb-true, lt-ltb, ltb-true, ltb-false}
 use Rattle.lists.specs.Lists.{one, count, keep, commonStart}
@@ -20,7 +20,6 @@ use Rattle.lists.proofs.StepLaws.{keep-taken, keep-passed, keep-end}
 use Rattle.sets.specs.declared.Context.{Context}
 use Rattle.request.specs.declared.Request.{Request}
 use Rattle.numbers.specs.Numbers.{sameNumber, mostPanels, mostEvents, GoodNumber, numberOf, slotOf}
-use Rattle.numbers.specs.Lexicographic.{lexicographic}
 use Rattle.request.specs.Order.{before}
 use Rattle.sets.specs.Sets.{member, leave}
 use Rattle.numbers.proofs.NumberLaws.{sameNumber-sound, sameNumber-self, slot-of-number, number-of-good, number-good}
@@ -115,12 +114,6 @@ comes-before-order x y clocks t g h number clock =
     let good : GoodNumber mostPanels (y .number) = rw number (number-of-good t) in
     let slot : slotOf (y .number) ≡ t = ap slotOf number ∙ slot-of-number t h in
     before-by-slots x y g good ∙ rw (clock, slot)
-
--- a clock stored for another slot plays no part
-pub comes-before-stored : (clocks : List ℕ) (u v c s t : ℕ) → (t ≡ u → ⊥)
-    → comesBefore (set clocks u v) c s t ≡ comesBefore clocks c s t
-unfolding comesBefore
-comes-before-stored clocks u v c s t other = ap (λ (k : ℕ). lexicographic c k (ltb s t)) (getD-set-other clocks u t v 0 other)
 
 -- ---- a set without the slots that a test keeps, place by place
 

@@ -14,7 +14,7 @@ use Rattle.request.specs.Operations.{lastRegister}
 use Rattle.request.specs.Refusal as refused
 use Rattle.creek.specs.Plan.{order}
 use Rattle.creek.specs.Replies.{noRequest}
-use Rattle.creek.specs.Showing.{registerRefusal, registerShown, requestsShown, commitsShown, undosShown, executionsShown, owedShown}
+use Rattle.creek.specs.Showing.{registerRefusal, registerShown, requestsShown, commitsShown, owedShown}
 use Rattle.creek.specs.Showing.{placeRefusal, placeShown}
 use Rattle.replica.specs.State.{State}
 use Rattle.replica.specs.Model.{orderSlots, orderOf, planOf, bookOf, model, Inv}
@@ -38,14 +38,6 @@ module _ (p : State) (inv : Inv p) where
   pub commits-are : p .commits ≡ commitsShown (model p)
   unfolding model
   commits-are = refl
-
-  pub undos-are : p .counters .undos ≡ undosShown (model p)
-  unfolding model
-  undos-are = refl
-
-  pub executions-are : p .counters .executions ≡ executionsShown (model p)
-  unfolding model
-  executions-are = refl
 
   pub owed-are : (p .stacked - p .executed) + (p .ordered - p .executed) ≡ owedShown (model p)
   unfolding model

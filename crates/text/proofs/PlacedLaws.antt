@@ -1,13 +1,13 @@
 -- Laws of texts at places, in this order: one text behind another; a loop that puts a text piece by piece (`Left`); a loop that puts
 -- one byte after another.
-use Prim.Native.Nat.{ℕ, suc, _+_, _≤_, _<_}
+use Prim.Native.Nat.{ℕ, suc, _+_, _<_}
 use native.Mathlib.Nat.{add-zero}
 use native.Mathlib.Numerals.{add-one}
 use native.Mathlib.Omega.{arith}
 use mathlib.Core.Path.{_≡_, refl, sym, ap, _∙_}
 use mathlib.Core.List.{List, [], _∷_, _++_}
-use lib.ListN.{length, getD, set, take, drop, length-append}
-use lib.Seq.{sets, length-sets, sets-eq, drop-cons}
+use lib.ListN.{length, getD, set, drop, length-append}
+use lib.Seq.{sets, length-sets, drop-cons}
 use Rattle.text.specs.Placed.{Room, Written}
 
 -- ---- one text behind another
@@ -41,15 +41,6 @@ room-first s t r = record { fits = omega (arith, length-append s t) }
 -- and once it is put, the second fits behind it
 pub room-next : {out out₁ s : List ℕ} {at at₁ : ℕ} (t : List ℕ) → Written out at s out₁ at₁ → Room out at (s ++ t) → Room out₁ at₁ t
 room-next {out} {out₁} {s} t w r = record { fits = omega (arith, length-append s t, w .place, same-size w) }
-
--- the place behind a text that fits is within the bytes
-pub behind-within : {out text out′ : List ℕ} {at behind : ℕ} → Room out at text → Written out at text out′ behind → behind ≤ length out′
-behind-within r w = omega (arith, r .fits, w .place, same-size w)
-
--- every byte, where the text fits: those in front of it, the text, those behind it
-pub written-between : {out text out′ : List ℕ} {at behind : ℕ} → Room out at text → Written out at text out′ behind
-    → out′ ≡ take at out ++ text ++ drop (at + length text) out
-written-between {out} {text} {out′} {at} r w = w .bytes ∙ sets-eq text out at (r .fits)
 
 -- ---- a text piece by piece
 
