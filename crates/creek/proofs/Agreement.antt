@@ -30,7 +30,9 @@ use Rattle.creek.specs.Agreement.{EachNumberOnce, broughtBy, settledBy, 
 use Rattle.creek.specs.Agreement.{History, openedIn, requestsIn, settlementsIn, replicaAfter, ComesToOrder, GrowsAtEnd}
 use Rattle.creek.specs.Agreement.{AcceptedSame, Idle, SideBySide}
 use Rattle.creek.proofs.CallLaws.{by-outcome, step-book}
-use Rattle.creek.proofs.PlanLaws.{New, made-new, heard-new, Commits, commits, entered-count, committing-count}
+use Rattle.creek.proofs.AcceptanceLaws.{New, made-new, heard-new, Commits, commits}
+use Rattle.creek.proofs.EnteredLaws.{entered-count}
+use Rattle.creek.proofs.CommittedLaws.{committing-count}
 use Rattle.creek.proofs.ExecutionLaws.{idle-board}
 use Rattle.creek.proofs.SoundLaws.{step-sound, fresh-sound, reached-sound}
 use Rattle.creek.proofs.StableReply.{run-extends}

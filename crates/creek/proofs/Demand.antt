@@ -15,7 +15,9 @@ use Rattle.creek.specs.Showing.{requestsShown, commitsShown, undosShown,
 use Rattle.creek.specs.Sound.{Sound}
 use Rattle.creek.specs.Demand.{Demand3}
 use Rattle.creek.proofs.CallLaws.{by-outcome, step-book}
-use Rattle.creek.proofs.PlanLaws.{commits, entered-length, committing-length}
+use Rattle.creek.proofs.AcceptanceLaws.{commits}
+use Rattle.creek.proofs.EnteredLaws.{entered-length}
+use Rattle.creek.proofs.CommittedLaws.{committing-length}
 use Rattle.creek.proofs.ExecutionLaws.{board-length}
 use Rattle.creek.proofs.SoundLaws.{step-sound, fresh-sound, reached-sound}
 use Rattle.creek.proofs.DueLaws.{later-plan, due-accepted, idle-exactly, replayed}

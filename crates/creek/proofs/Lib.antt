@@ -1,7 +1,10 @@
 -- The laws of the definitions in `specs/` and the theorems about them, each below what it uses.
 pub mod ContextLaws
 pub mod HeldLaws
-pub mod PlanLaws
+pub mod AcceptanceLaws
+pub mod KnownLaws
+pub mod EnteredLaws
+pub mod CommittedLaws
 pub mod LookupLaws
 pub mod ExecutionLaws
 pub mod CallLaws
@@ -16,6 +19,8 @@ pub mod ResponseLaws
 pub mod StableReply
 pub mod StandingOrderLaws
 pub mod Agreement
+pub mod SilentLaws
+pub mod SoundAwaitingLaws
 pub mod Waiting
 pub mod Clocks
 pub mod Moves

@@ -20,7 +20,9 @@ use Rattle.creek.specs.Plan.{Plan, order, hasNumber, held, isOf, lastEve
 use Rattle.creek.specs.Plan.{committing, invokeRefusal, deliverRefusal}
 use Rattle.creek.specs.Sound.{SoundPlan}
 use Rattle.lists.proofs.ListLaws.{one-true, one-false, find-moved}
-use Rattle.creek.proofs.PlanLaws.{passed, New, made-new, heard-new, entered-count, entered-sound, committing-count}
+use Rattle.creek.proofs.AcceptanceLaws.{passed, New, made-new, heard-new}
+use Rattle.creek.proofs.EnteredLaws.{entered-count, entered-sound}
+use Rattle.creek.proofs.CommittedLaws.{committing-count}
 
 -- the last own clock reading, where own panel and last event are known
 last-clock : (b : Plan) (own e : ℕ) → b .own ≡ own → lastEvent b ≡ e → lastClock b ≡ clockOf (held b (numbered own e))

@@ -27,9 +27,11 @@ use Rattle.creek.proofs.CallLaws.{by-outcome}
 use Rattle.lists.proofs.ListLaws.{count-append, count-most}
 use Rattle.sets.proofs.PanelLaws.{namesFrom-empty}
 use Rattle.creek.proofs.HeldLaws.{held-few}
-use Rattle.creek.proofs.PlanLaws.{New, made-new, heard-new, commits, entered-count, entered-length, entered-committed}
-use Rattle.creek.proofs.PlanLaws.{entered-sound, committing-starts, committing-count, committing-length, committing-sound}
-use Rattle.creek.proofs.PlanLaws.{committing-strong}
+use Rattle.creek.proofs.AcceptanceLaws.{New, made-new, heard-new, commits}
+use Rattle.creek.proofs.EnteredLaws.{entered-count, entered-length, entered-committed}
+use Rattle.creek.proofs.EnteredLaws.{entered-sound}
+use Rattle.creek.proofs.CommittedLaws.{committing-starts, committing-count, committing-length, committing-sound}
+use Rattle.creek.proofs.CommittedLaws.{committing-strong}
 use Rattle.creek.proofs.ExecutionLaws.{board-length, adjusted-follows, adjusted-board, rollback-most, rollback-most-behind}
 use Rattle.creek.proofs.ExecutionLaws.{undone-executed, undone-follows, undone-count, undone-rollback, executed-rollback}
 use Rattle.creek.proofs.ExecutionLaws.{executed-follows, executes, board-executed}

@@ -32,7 +32,7 @@ use Rattle.creek.specs.Agreement.{Extends}
 use Rattle.creek.specs.StableReply.{repliedTo, carriesOut, lastResponse, StableReply, LastCarryOut}
 use Rattle.creek.proofs.CallLaws.{by-outcome}
 use Rattle.lists.proofs.ListLaws.{one-true, one-false, count-append, passes-count}
-use Rattle.creek.proofs.PlanLaws.{commits}
+use Rattle.creek.proofs.AcceptanceLaws.{commits}
 use Rattle.creek.proofs.ExecutionLaws.{executes, board-executed}
 use Rattle.creek.proofs.SoundLaws.{accept-sound, step-sound, fresh-nothing, fresh-sound, reached-sound}
 use Rattle.creek.proofs.ResponseLaws.{response-start, response-behind, response-both}

@@ -23,7 +23,7 @@ use Rattle.request.proofs.OrderLaws.{before-irreflexive, before-transitive, bef
 use Rattle.creek.specs.Plan.{Parts, hasNumber, placed, named, stays}
 use Rattle.creek.specs.Agreement.{inClockOrder, nothingCommitted, committingFoundIn, committingNumberIn, committingInTurn}
 use Rattle.creek.specs.Agreement.{standingOrder, EachNumberOnce, Determined}
-use Rattle.creek.proofs.PlanLaws.{placed-count, placed-ordered}
+use Rattle.creek.proofs.EnteredLaws.{placed-count, placed-ordered}
 
 -- ---- clock order
 

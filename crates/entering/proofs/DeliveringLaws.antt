@@ -16,7 +16,7 @@ use Rattle.creek.specs.Plan.{held, isOf, entered, met, heldRefusal, deliverRefu
 use Rattle.creek.specs.Book.{deliver, refusal, accepted}
 use Rattle.creek.specs.Replies.{done, refusedWith, namedByRefusal, acceptedAnswer, acceptedAwaiting}
 use Rattle.creek.specs.Calls.{accept}
-use Rattle.creek.proofs.PlanLaws.{passed, heard-new}
+use Rattle.creek.proofs.AcceptanceLaws.{passed, heard-new}
 use Rattle.creek.proofs.LookupLaws.{lastEvent-heard, lastClock-heard}
 use Rattle.replica.specs.State.{State}
 use Rattle.store.specs.Requests.{requestAt}

@@ -9,7 +9,8 @@ use Rattle.numbers.specs.Numbers.{mostPanels, GoodNumber}
 use Rattle.sets.specs.Sets.{member}
 use Rattle.numbers.proofs.NumberLaws.{good-number}
 use Rattle.creek.proofs.HeldLaws.{good-request, widened, held-few}
-use Rattle.creek.proofs.PlanLaws.{New, entered-length, entered-sound}
+use Rattle.creek.proofs.AcceptanceLaws.{New}
+use Rattle.creek.proofs.EnteredLaws.{entered-length, entered-sound}
 use Rattle.replica.specs.State.{State}
 use Rattle.replica.specs.Model.{planOf, Inv}
 use Rattle.entering.specs.Entering.{Enters}

@@ -30,7 +30,7 @@ use Rattle.creek.specs.Plan.{invokeRefusal}
 use Rattle.creek.specs.Book.{invoke, refusal, accepted}
 use Rattle.creek.specs.Replies.{spread, refusedWith, namedByRefusal, acceptedAnswer, acceptedAwaiting}
 use Rattle.creek.specs.Calls.{accept}
-use Rattle.creek.proofs.PlanLaws.{passed, made-new}
+use Rattle.creek.proofs.AcceptanceLaws.{passed, made-new}
 use Rattle.creek.proofs.LookupLaws.{lastEvent-made, lastClock-made}
 use Rattle.replica.specs.State.{State}
 use Rattle.store.specs.Requests.{requestAt}

@@ -23,7 +23,7 @@ use Rattle.creek.specs.Plan.{order as orderPlanned, hasNumber, named, committin
 use Rattle.creek.specs.Execution.{operations, adjusted}
 use Rattle.creek.specs.Stack.{stacked}
 use Rattle.creek.specs.Replies.{responseIn}
-use Rattle.creek.proofs.PlanLaws.{committing-count}
+use Rattle.creek.proofs.CommittedLaws.{committing-count}
 use Rattle.creek.proofs.ResponseLaws.{response-behind}
 use Rattle.creek.proofs.StackLaws.{stacked-adjusted}
 use Rattle.replica.specs.State.{State}

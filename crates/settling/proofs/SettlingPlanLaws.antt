@@ -20,7 +20,7 @@ use Rattle.slots.specs.Settlement.{stays, settled, SettlementAsks, Settled}
 use Rattle.slots.proofs.SlotLaws.{part-of, same-slot, in-words-member, stays-by-number}
 use Rattle.slots.proofs.SettlementLaws.{all-settled, count-settled, committed-inside, committed-settled, tentative-settled}
 use Rattle.creek.specs.Plan.{order as orderPlanned, hasNumber, named, stays as staysTentative, committing}
-use Rattle.creek.proofs.PlanLaws.{not-itself}
+use Rattle.creek.proofs.CommittedLaws.{not-itself}
 use Rattle.replica.specs.State.{State}
 use Rattle.store.specs.Requests.{requestAt}
 use Rattle.replica.specs.Model.{requestsAt, orderSlots, orderOf, planOf, Inv}

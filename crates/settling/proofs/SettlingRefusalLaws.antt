@@ -15,7 +15,7 @@ use Rattle.creek.specs.declared.Answer.{Answer}
 use Rattle.creek.specs.Plan.{met, hasNumber, held, isCommitted, foundRefusal, commitRefusal}
 use Rattle.creek.specs.Book.{commit, refusal}
 use Rattle.creek.specs.Replies.{done, refusedWith, missing, namedByRefusal}
-use Rattle.creek.proofs.PlanLaws.{passed}
+use Rattle.creek.proofs.AcceptanceLaws.{passed}
 use Rattle.replica.specs.State.{State}
 use Rattle.store.specs.Requests.{requestAt}
 use Rattle.replica.specs.Model.{planOf, bookOf, Inv, Kept}
