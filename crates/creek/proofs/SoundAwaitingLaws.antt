@@ -47,9 +47,9 @@ module _ (r : Replica) (x : Request) (xs : List Request) (next : r .book .execut
   abbrev weakOf : Request → Bool
   weakOf y = not (y .strong) && hasNumber (x .number) y
 
-  pub ordered-once : (p : Request → Bool) → count p (r .book .execution .executed) + (one (p x) + count p xs)
+  pub order-counted : (p : Request → Bool) → count p (r .book .execution .executed) + (one (p x) + count p xs)
       ≡ count p (r .book .plan .committed) + count p (r .book .plan .tentative)
-  ordered-once p =
+  order-counted p =
       omega (
         arith,
         ap (count p) (sound .follows),
@@ -85,7 +85,7 @@ module _ (r : Replica) (x : Request) (xs : List Request) (next : r .book .execut
           omega (
             arith,
             once,
-            ordered-once weakOf,
+            order-counted weakOf,
             one-true (both (ap not s) (sameNumber-self (x .number))),
             count-either (hasNumber (x .number)) (λ y. y .strong) (r .book .plan .committed),
             count-either (hasNumber (x .number)) (λ y. y .strong) (r .book .plan .tentative),

@@ -31,7 +31,7 @@ use Rattle.creek.proofs.AcceptanceLaws.{commits}
 use Rattle.creek.proofs.CommittedLaws.{committing-count}
 use Rattle.creek.proofs.SoundLaws.{step-sound, reached-sound}
 use Rattle.creek.proofs.SilentLaws.{Silent, accept-silent, accepted-silent}
-use Rattle.creek.proofs.SoundAwaitingLaws.{ordered-once, reached-awaiting, step-awaiting}
+use Rattle.creek.proofs.SoundAwaitingLaws.{order-counted, reached-awaiting, step-awaiting}
 
 -- ---- a weak or stable reply is the last
 
@@ -72,7 +72,7 @@ accepted-ends r execute taken sound e =
     there (x ∷ xs) f e =
         omega (
           arith,
-          ordered-once r x xs f sound (hasNumber (x .number)),
+          order-counted r x xs f sound (hasNumber (x .number)),
           one-true (sameNumber-self (x .number)),
           count-append (hasNumber (x .number)) (r .book .plan .committed) (r .book .plan .tentative),
         )
@@ -121,7 +121,7 @@ strong-awaited r x xs next sound w own strong new = go (member (r .awaiting) (x 
     go true e = refl
     go false e = absurd (omega (
       arith,
-      ordered-once r x xs next sound both-tests,
+      order-counted r x xs next sound both-tests,
       one-true (both (both (both own strong) (ap not e)) (sameNumber-self (x .number))),
       w .strong-await,
       none-passes-count (hasNumber (x .number)) (r .book .plan .committed) new,

@@ -14,8 +14,8 @@ use Rattle.replica.specs.State.{State, Opened}
 use Rattle.replica.specs.Model.{model, Fresh}
 use Rattle.encoding.specs.Encoding.{panelsOf, ownOf, callsAt, callCount, entriesOf, answerSize, answersBytes}
 use Rattle.encoding.specs.Encoding.{runEntries, freshOf, tight, entriesRun, RanAll}
-use Rattle.driver.specs.declared.Ran.{Ran as RanOf}
-use Rattle.driver.specs.Running.{Ran}
+use Rattle.driver.specs.declared.RunResult.{RunResult}
+use Rattle.driver.specs.Running.{RanList}
 use Rattle.encoding.proofs.Expanded.{run-expanded}
 use Rattle.encoding.proofs.SizeLaws.{length-calls, run-inside}
 
@@ -27,7 +27,7 @@ module _ (s out : List ℕ) (panels own : ℕ) (o : Opened) (is-panels : panels 
 
     -- without room
     pub ran-nothing : length out / answerSize < count → (core : Core) (counters : Counters)
-        → Ran s out out (record { room = false; refusal = o .refusal; ran = 0; core = core; counters = counters }) (o .state)
+        → RanList s out out (record { room = false; refusal = o .refusal; ran = 0; core = core; counters = counters }) (o .state)
     unfolding entriesRun runEntries answersBytes
     ran-nothing h core counters =
         let e : tight s out ≡ true = lt-ltb (length out / answerSize) (callCount s) (omega (arith, counted)) in
@@ -45,7 +45,7 @@ module _ (s out : List ℕ) (panels own : ℕ) (o : Opened) (is-panels : panels 
     -- with room
     pub ran-all : count ≤ length out / answerSize → (out′ : List ℕ) (q : State) → RanAll (o .state) s out out′ q
         → (core : Core) (counters : Counters)
-        → Ran s out out′ (record { room = true; refusal = o .refusal; ran = count; core = core; counters = counters }) q
+        → RanList s out out′ (record { room = true; refusal = o .refusal; ran = count; core = core; counters = counters }) q
     unfolding entriesRun entriesOf
     ran-all h out′ q all core counters =
         let e : tight s out ≡ false = le-ltb (length out / answerSize) (callCount s) (omega (arith, counted)) in
@@ -62,5 +62,5 @@ module _ (s out : List ℕ) (panels own : ℕ) (o : Opened) (is-panels : panels 
         }
 
 -- the answers of a run lie in the lent bytes
-pub ran-inside : {s out out′ : List ℕ} {r : RanOf} {q : State} → Ran s out out′ r q → answerSize * r .ran ≤ length out
+pub ran-inside : {s out out′ : List ℕ} {r : RunResult} {q : State} → RanList s out out′ r q → answerSize * r .ran ≤ length out
 ran-inside {s} {out} h = omega (arith, h .ran, run-inside s out)

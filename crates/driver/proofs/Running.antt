@@ -5,7 +5,7 @@ use mathlib.Core.List.{List, _∷_, _++_}
 use native.Mathlib.Nat.{sub-zero}
 use native.Mathlib.Omega.{arith}
 use lib.ListN.{length}
-use Rattle.text.specs.Placed.{Room, Written}
+use Rattle.text.specs.Placed.{Room, Placed}
 use Rattle.text.proofs.PlacedLaws.{Left, left-start, left-room, left-step, left-end}
 use Rattle.creek.specs.declared.Answer.{Answer}
 use Rattle.creek.specs.Calls.{Replica}
@@ -77,7 +77,7 @@ module _ (p : State) (s : List ℕ) (count : ℕ) (out out₁ : List ℕ) (q : S
     pub run-room : Room out 0 (answersBytes (model p) (entriesOf s)) → Room out₁ behind (answerBytes (d .answer))
     run-room r = left-room (answerBytes (d .answer)) (answersBytes (model (d .state)) (behindCall s at count i)) r next
 
-    pub run-step : (out₂ : List ℕ) (behind₂ : ℕ) → Written out₁ behind (answerBytes (d .answer)) out₂ behind₂
+    pub run-step : (out₂ : List ℕ) (behind₂ : ℕ) → Placed out₁ behind (answerBytes (d .answer)) out₂ behind₂
         → Running p s count out out₂ (d .state) (at + callSize) behind₂ (i + 1)
     run-step out₂ behind₂ w = record {
       few = omega arith;

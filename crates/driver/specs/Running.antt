@@ -10,10 +10,10 @@ use Rattle.creek.specs.History.{run}
 use Rattle.replica.specs.State.{State}
 use Rattle.replica.specs.Model.{Inv, model}
 use Rattle.encoding.specs.Encoding.{panelsOf, ownOf, runEntries, callsOf, freshOf, tight, entriesRun, answersBytes}
-use Rattle.driver.specs.declared.Ran.{Ran as RanOf}
+use Rattle.driver.specs.declared.RunResult.{RunResult}
 
 -- what a run of the bytes s does where the lent bytes were out and are out′, and q is the panel's memory then
-pub record Ran (s out out′ : List ℕ) (r : RanOf) (q : State) : Type 0 where
+pub record RanList (s out out′ : List ℕ) (r : RunResult) (q : State) : Type 0 where
   pub room : r .room ≡ not (tight s out)
   pub refusal : r .refusal ≡ freshRefusal (panelsOf s) (ownOf s)
   pub ran : r .ran ≡ length (entriesRun s out)

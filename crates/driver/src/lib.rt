@@ -14,11 +14,11 @@ ghost use Rattle.text.specs.Placed.{Room};
 ghost use Rattle.replica.specs.State.{packed};
 ghost use Rattle.replica.specs.Model.{Inv, model};
 ghost use Rattle.encoding.specs.Encoding.{callCount, entriesOf, answersBytes, RanAll};
-ghost use Rattle.driver.specs.Running.{Ran as RanBytes};
+ghost use Rattle.driver.specs.Running.{RanList};
 
 // What a run returns: whether the lent bytes have room for the answers, the refusal of fresh, how many calls were run, and the core and
 // the counters after them.
-pub struct Ran {
+pub struct RunResult {
     pub room: bool,
     pub refusal: u8,
     pub ran: usize,
@@ -48,8 +48,8 @@ pub fn run(
     registers: &mut [u32; 64],
     saved: &mut [u64; 512],
     responses: &mut [u32; 512],
-) -> Ran
-    ensures { λ r. ⌜ RanBytes (now (s .entry)) (now (out .entry)) (now (out .exit)) r
+) -> RunResult
+    ensures { λ r. ⌜ RanList (now (s .entry)) (now (out .entry)) (now (out .exit)) r
         (packed (r .core) (r .counters) (now (held .exit)) (now (known .exit)) (now (awaiting .exit)) (now (clocks .exit))
         (now (operations .exit)) (now (contexts .exit)) (now (order .exit)) (now (stack .exit)) (now (registers .exit)) (now (saved .exit))
         (now (responses .exit))) ⌝ }
@@ -76,7 +76,7 @@ pub fn run(
     let core = opened.core;
     let counters = opened.counters;
     if out.len() / answers::ANSWER_SIZE < count {
-        return Ran {
+        return RunResult {
             room: false,
             refusal,
             ran: 0,
@@ -104,7 +104,7 @@ pub fn run(
     );
     let core = all.core;
     let counters = all.counters;
-    Ran {
+    RunResult {
         room: true,
         refusal,
         ran: count,

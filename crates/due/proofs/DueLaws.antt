@@ -32,7 +32,7 @@ use Rattle.steps.specs.declared.DueReply.{DueReply}
 use Rattle.replica.specs.State.{State, Called}
 use Rattle.store.specs.Requests.{operationIn, requestAt}
 use Rattle.replica.specs.Model.{orderOf, planOf, bookOf, model, savedAt, Inv, Kept}
-use Rattle.due.specs.Due.{Ran, noReply, replyIn, isAwaited, dueReplies, mostReplies, padded, repliesOwed, RunDue, SameJob, RolledBack, ExecutedAll}
+use Rattle.due.specs.Due.{DueOutcome, noReply, replyIn, isAwaited, dueReplies, mostReplies, padded, repliesOwed, RunDue, SameJob, RolledBack, ExecutedAll}
 use Rattle.replica.proofs.States.{undoneState, executedState}
 use Rattle.replica.proofs.ModelLaws.{requestOf, topSlot, nextSlot, order-planned, plan-sound, length-order, rollback-first, rollback-none, rollback-length, todo-length, order-next}
 use Rattle.steps.proofs.UndoLaws.{undo-kept}
@@ -274,7 +274,7 @@ module _ (p q : State) (replies : List DueReply) (n : ℕ) (h : Executing p q re
 -- ---- both
 
 -- from p to q all that was to be rolled back was undone, and from there all that was to do was executed
-pub run-through : (p q : State) (r : Ran) → Inv p → RolledBack p q → ExecutedAll q (p .stacked - p .executed) r → RunDue p r
+pub run-through : (p q : State) (r : DueOutcome) → Inv p → RolledBack p q → ExecutedAll q (p .stacked - p .executed) r → RunDue p r
 unfolding model
 run-through p q r inv back all = record {
   state = all .state ∙ back .job .state;

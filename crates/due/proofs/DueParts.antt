@@ -13,7 +13,7 @@ use Rattle.due.specs.declared.DueResult.{DueResult}
 use Rattle.replica.specs.State.{State, withBoard}
 use Rattle.replica.specs.Model.{Inv}
 use Rattle.steps.specs.Steps.{undoParts, UndoAsks, TopAsks, TakenOff, executeParts, ExecuteAsks}
-use Rattle.due.specs.Due.{Ran, noReply, mostReplies, ranParts, RunDue, RolledBack, ExecutedAll, AllUndone, AllExecuted, DueKept}
+use Rattle.due.specs.Due.{DueOutcome, noReply, mostReplies, ranParts, RunDue, RolledBack, ExecutedAll, AllUndone, AllExecuted, DueKept}
 use Rattle.replica.proofs.ModelLaws.{top-slot, next-slot}
 use Rattle.steps.proofs.ExecuteLaws.{NextReply}
 use Rattle.steps.proofs.StepParts.{none-undone, none-executed, NextAsks, Next}
@@ -138,7 +138,7 @@ module _ (core : Core) (awaiting operations order stack registers saved response
         let end : at ≡ core .ordered = omega (arith, h .high) in
         record {
           all = λ p inv.
-              let ran : State → Ran = λ q. record { undos = undos; executions = executions; count = count; replies = replies; state = q } in
+              let ran : State → DueOutcome = λ q. record { undos = undos; executions = executions; count = count; replies = replies; state = q } in
               subst (λ (k : ℕ). ExecutedAll (executed-from p) undos
               (ran (executeParts p (executionsCounted (p .counters) k) (withBoard core (core .ordered) (core .ordered)) awaiting′ operations order
               stack′ registers′ saved′ responses′))) (sym is)

@@ -53,7 +53,7 @@ padded l = l ++ replicate (mostReplies - length l) noReply
 -- ---- the call
 
 -- what it leads to: how many undos and executions they were, the replies that fell due, of which there are `count`, and the state after them
-pub record Ran : Type 0 where
+pub record DueOutcome : Type 0 where
   pub undos : ℕ
   pub executions : ℕ
   pub count : ℕ
@@ -65,7 +65,7 @@ abbrev pub repliesOwed : State → List DueReply
 repliesOwed p = dueReplies (owedShown (model p)) (model p)
 
 -- every due step done on p
-pub record RunDue (p : State) (r : Ran) : Type 0 where
+pub record RunDue (p : State) (r : DueOutcome) : Type 0 where
   -- the state after as many due steps as were owed
   pub state : model (r .state) ≡ idled (model p)
   -- how many undos and how many executions these were
@@ -93,7 +93,7 @@ pub record RolledBack (p q : State) : Type 0 where
   pub job : SameJob p q
 
 -- what was to do on p, which has nothing to be rolled back, is executed
-pub record ExecutedAll (p : State) (undos : ℕ) (r : Ran) : Type 0 where
+pub record ExecutedAll (p : State) (undos : ℕ) (r : DueOutcome) : Type 0 where
   pub state : model (r .state) ≡ idled (model p)
   pub handed : r .undos ≡ undos
   pub executions : r .executions ≡ p .ordered - p .executed
@@ -112,7 +112,7 @@ pub record AllUndone (core : Core) (operations stack registers saved registers�
       operations stack registers′ saved)
 
 -- every due step done on a panel with these parts, with its steps counted
-abbrev pub ranParts : State → Counters → DueResult → (awaiting operations order stack registers saved responses : List ℕ) → Ran
+abbrev pub ranParts : State → Counters → DueResult → (awaiting operations order stack registers saved responses : List ℕ) → DueOutcome
 ranParts p counters r awaiting operations order stack registers saved responses = record {
   undos = r .due .undos;
   executions = r .due .executions;

@@ -11,7 +11,7 @@ use Rattle.creek.specs.Replies.{noMark, noRequest}
 use Rattle.creek.specs.Sound.{mostRequests}
 use Rattle.creek.specs.Showing.{owedShown}
 use Rattle.replica.specs.State.{State, Called}
-use Rattle.due.specs.Due.{Ran}
+use Rattle.due.specs.Due.{DueOutcome}
 use Rattle.replica.specs.Model.{Inv, model, Kept}
 use Rattle.due.specs.Due.{RunDue}
 use Rattle.replica.proofs.ShowingLaws.{owed-are}
@@ -23,7 +23,7 @@ use Rattle.encoding.specs.Encoding.{allDueTag, callAt, one, allDue, entr
 owed-few : (p : State) → Inv p → owedShown (model p) ≤ 2 * mostRequests
 owed-few p inv = omega (arith, owed-are p inv, inv .counts .ordered, inv .counts .stacked)
 
-pub steps-few : (p : State) (r : Ran) → Inv p → RunDue p r → r .undos + r .executions ≤ 2 * mostRequests
+pub steps-few : (p : State) (r : DueOutcome) → Inv p → RunDue p r → r .undos + r .executions ≤ 2 * mostRequests
 steps-few p r inv ran = omega (arith, owed-few p inv, ran .undos, ran .executions)
 
 nothing-is : (m : Message) → m ≡ noMessage → m .request ≡ noRequest
@@ -31,7 +31,7 @@ unfolding noMessage bare
 nothing-is m e = ap (λ (x : Message). x .request) e
 
 -- all due steps, from what running them gives
-pub done-all-due : (p : State) (r : Ran) → RunDue p r → (m : Message) → m ≡ noMessage
+pub done-all-due : (p : State) (r : DueOutcome) → RunDue p r → (m : Message) → m ≡ noMessage
     → Done p allDue (record {
       answer = record {
         refusal = refused.accepted;

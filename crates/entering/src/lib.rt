@@ -47,9 +47,9 @@ pub fn invoke<'a>(
         (now (held .exit)) (now (known .exit)) (now (awaiting .exit)) (now (clocks .exit)) (now (operations .exit)) (now (contexts .exit))
         (now (order .exit)) r ⌝ }
 {
-    let word = ask(core.events, i);
-    if word != refusal::ACCEPTED {
-        let answer = replica::refused(word);
+    let refusal = ask(core.events, i);
+    if refusal != refusal::ACCEPTED {
+        let answer = replica::refused(refusal);
         return CallResult { core, answer };
     }
     let raised = at_least(core.clock, i);
@@ -224,9 +224,9 @@ pub fn deliver<'a>(
         (now (contexts .entry)) (now (order .entry)) (now (stack .entry)) x
         (now (held .exit)) (now (known .exit)) (now (clocks .exit)) (now (operations .exit)) (now (contexts .exit)) (now (order .exit)) r ⌝ }
 {
-    let word = judge(core.panels, core.own, x);
-    if word != refusal::ACCEPTED {
-        let answer = replica::refused(word);
+    let refusal = judge(core.panels, core.own, x);
+    if refusal != refusal::ACCEPTED {
+        let answer = replica::refused(refusal);
         return CallResult { core, answer };
     }
     let slot = numbers::slot_of(x.number);

@@ -11,7 +11,7 @@ use Rattle.creek.specs.Calls.{Replica}
 use Rattle.creek.specs.StableReply.{repliedTo}
 use Rattle.creek.specs.Agreement.{AcceptedSame, Idle, SideBySide}
 use Rattle.creek.proofs.Agreement.{grows-at-end, side-by-side}
-use Rattle.due.specs.Due.{Ran, RunDue}
+use Rattle.due.specs.Due.{DueOutcome, RunDue}
 use Rattle.replica.specs.declared.RegisterValue.{RegisterValue}
 use Rattle.replica.specs.declared.PlacedRequest.{PlacedRequest}
 use Rattle.replica.specs.Model.{model}
@@ -37,7 +37,7 @@ module _ {panels own : ℕ} (p : PanelHistory panels own) where
   }
 
   -- all due steps leave one replay of the standing order in the registers
-  registers-replayed : (r : Ran) → RunDue (p .last) r
+  registers-replayed : (r : DueOutcome) → RunDue (p .last) r
       → r .state .registers ≡ replay (operations (order (model (p .last) .book .plan)))
   registers-replayed r ran = panel-demand-3 (p .begun) (p .led) .settles-at-once r ran .steps .replayed refl
 

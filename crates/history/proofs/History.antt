@@ -22,7 +22,7 @@ use Rattle.creek.specs.Demand.{Demand3}
 use Rattle.creek.proofs.CallLaws.{answer-refusal, step-book, run-book, run-append}
 use Rattle.creek.proofs.Demand.{demand-3}
 use Rattle.replica.specs.State.{State, Opened}
-use Rattle.due.specs.Due.{Ran, noReply, replyIn, isAwaited, dueReplies, mostReplies, repliesOwed, RunDue}
+use Rattle.due.specs.Due.{DueOutcome, noReply, replyIn, isAwaited, dueReplies, mostReplies, repliesOwed, RunDue}
 use Rattle.steps.specs.declared.DueReply.{DueReply}
 use Rattle.replica.specs.Model.{model, Inv, Fresh}
 use Rattle.replica.proofs.ModelLaws.{registers-are}
@@ -32,7 +32,7 @@ use Rattle.history.specs.History.{repliesIn, DueStepsDone, AllDueDone, P
 -- ---- all due steps at once, and the single steps
 
 -- all due steps at once lead where the single steps lead
-due-model : (p : State) (r : Ran) → RunDue p r → model (r .state) ≡ run (model p) (stepsDue p)
+due-model : (p : State) (r : DueOutcome) → RunDue p r → model (r .state) ≡ run (model p) (stepsDue p)
 due-model p r ran = ran .state ∙ sym (run-due (owedShown (model p)) (model p))
 
 answers-append : (r : Replica) (cs ds : List Call) → answersTo r (cs ++ ds) ≡ answersTo r cs ++ answersTo (run r cs) ds
@@ -163,7 +163,7 @@ module _ {panels own : ℕ} {opened : Opened} {calls : List Call} {answers : Lis
       rw (leads-answers panel-inv steps)
       (due-done k last few (leads-inv panel-inv steps) (leads-model panel-inv steps ∙ run-due k (model q)))
 
-  due-at-once : (r : Ran) → RunDue q r → AllDueDone q r
+  due-at-once : (r : DueOutcome) → RunDue q r → AllDueDone q r
   due-at-once r ran =
       let replied = due-replies (owedShown (model q)) (model q) in
       record {

@@ -23,7 +23,7 @@ use Rattle.creek.proofs.SoundLaws.{step-sound, fresh-sound}
 use Rattle.creek.proofs.StableReply.{sound-stable-reply}
 use Rattle.creek.specs.Showing.{owedShown}
 use Rattle.replica.specs.State.{State}
-use Rattle.due.specs.Due.{Ran, noReply, replyIn, isAwaited, dueReplies, mostReplies, repliesOwed, RunDue}
+use Rattle.due.specs.Due.{DueOutcome, noReply, replyIn, isAwaited, dueReplies, mostReplies, repliesOwed, RunDue}
 use Rattle.steps.specs.declared.DueReply.{DueReply}
 use Rattle.replica.specs.Model.{model}
 use Rattle.history.specs.History.{Leads}
@@ -100,7 +100,7 @@ module _ {panels own : ℕ} (p : PanelHistory panels own) where
       told answers is mark settled =
           rw (settled, is) (stable-in-answers (fresh panels own) (p .calls) further place (fresh-sound panels own) (rw is at mark))
 
-  stable-due : (r : Ran) → RunDue (p .last) r → (place : ℕ) → replyAt r place .mark ≡ stableMark
+  stable-due : (r : DueOutcome) → RunDue (p .last) r → (place : ℕ) → replyAt r place .mark ≡ stableMark
       → (further : List Call) (more : List Answer) (later : State) → Leads (r .state) further more later
       → replyAt r place .response ≡ responseIn (replyAt r place .number) (settledList later)
   stable-due r ran place mark further more later leads =

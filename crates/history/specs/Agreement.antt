@@ -12,7 +12,7 @@ use Rattle.creek.specs.Replies.{stableMark, done, responseIn}
 use Rattle.creek.specs.StableReply.{repliedTo}
 use Rattle.creek.specs.Agreement.{Extends, AcceptedSame, Idle}
 use Rattle.replica.specs.State.{State}
-use Rattle.due.specs.Due.{Ran, noReply, RunDue}
+use Rattle.due.specs.Due.{DueOutcome, noReply, RunDue}
 use Rattle.steps.specs.declared.DueReply.{DueReply}
 use Rattle.replica.specs.declared.RegisterValue.{RegisterValue}
 use Rattle.replica.specs.declared.PlacedRequest.{PlacedRequest}
@@ -37,7 +37,7 @@ callAt calls place = getD calls place undo
 abbrev pub answerAt : List Answer → ℕ → Answer
 answerAt answers place = getD answers place done
 
-abbrev pub replyAt : Ran → ℕ → DueReply
+abbrev pub replyAt : DueOutcome → ℕ → DueReply
 replyAt r place = getD (r .replies) place noReply
 
 -- whatever is called on it then, its settled list only grows at its end
@@ -54,7 +54,7 @@ pub record PanelStableReplies {panels own : ℕ} (p : PanelHistory panels own) :
       → answerAt (p .answers) place .response
       ≡ responseIn (repliedTo (callAt (p .calls) place) (answerAt (p .answers) place)) (settledList later)
   -- of all due steps at once: every place in the replies that they gave that has mark 3
-  pub all-due : (r : Ran) → RunDue (p .last) r → (place : ℕ) → replyAt r place .mark ≡ stableMark
+  pub all-due : (r : DueOutcome) → RunDue (p .last) r → (place : ℕ) → replyAt r place .mark ≡ stableMark
       → (further : List Call) (more : List Answer) (later : State) → Leads (r .state) further more later
       → replyAt r place .response ≡ responseIn (replyAt r place .number) (settledList later)
 
@@ -74,7 +74,7 @@ module _ {panels own own′ : ℕ} (p : PanelHistory panels own) (q : PanelHisto
     pub register-shown : Idle (model (p .last)) → Idle (model (q .last)) → (k : ℕ) (shown shown′ : RegisterValue)
         → RegisterShown (p .last) k shown → RegisterShown (q .last) k shown′ → shown ≡ shown′
     -- after all due steps on each, the registers
-    pub registers-after : (r s : Ran) → RunDue (p .last) r → RunDue (q .last) s → r .state .registers ≡ s .state .registers
+    pub registers-after : (r s : DueOutcome) → RunDue (p .last) r → RunDue (q .last) s → r .state .registers ≡ s .state .registers
     -- what the one was told as stable is that request's response in one replay of the other's settled list
     pub told-stable : (place : ℕ) → answerAt (p .answers) place .mark ≡ stableMark
         → answerAt (p .answers) place .response

@@ -20,7 +20,7 @@ use Rattle.creek.specs.History.{answersTo, refusals, acceptedIn, dueCalls}
 use Rattle.creek.specs.Showing.{requestsShown, commitsShown, undosShown, executionsShown, owedShown}
 use Rattle.creek.specs.Demand.{mostUndos}
 use Rattle.replica.specs.State.{State, Called}
-use Rattle.due.specs.Due.{Ran, noReply, replyIn, isAwaited, mostReplies, RunDue}
+use Rattle.due.specs.Due.{DueOutcome, noReply, replyIn, isAwaited, mostReplies, RunDue}
 use Rattle.steps.specs.declared.DueReply.{DueReply}
 use Rattle.replica.specs.Model.{model, Inv, Kept}
 
@@ -47,7 +47,7 @@ pub data Leads : State → List Call → List Answer → State → Type 0 where
   stay : {p : State} → Leads p [] [] p
   call : {p q : State} {c : Call} {cs : List Call} {answers : List Answer} (r : Called)
       → (Inv p → Kept p c r) → Leads (r .state) cs answers q → Leads p (c ∷ cs) (r .answer ∷ answers) q
-  all-due : {p q : State} {cs : List Call} {answers : List Answer} (r : Ran)
+  all-due : {p q : State} {cs : List Call} {answers : List Answer} (r : DueOutcome)
       → (Inv p → RunDue p r) → Leads (r .state) cs answers q → Leads p (stepsDue p ++ cs) (answersDue p ++ answers) q
 
 -- the refusal number of each answer
@@ -71,7 +71,7 @@ pub record DueStepsDone (q : State) (k : ℕ) (answers : List Answer) (last : St
       → last .registers ≡ replay (operations (model q .book .plan .committed ++ model q .book .plan .tentative))
 
 -- what holds of what all due steps at once returned on q
-pub record AllDueDone (q : State) (r : Ran) : Type 0 where
+pub record AllDueDone (q : State) (r : DueOutcome) : Type 0 where
   -- the same as of the single steps, as many as the panel reported owed
   pub steps : DueStepsDone q (owedShown (model q)) (answersDue q) (r .state)
   -- the counters shown have grown by exactly the undos and carry-outs that it says it did
@@ -117,7 +117,7 @@ module _ (panels own : ℕ) (calls : List Call) where
     pub settles : (k : ℕ) (more : List Answer) (last : State) → k ≤ owedShown (model q) → Leads q (dueCalls k shiftBook) more last
         → DueStepsDone q k more last
     -- if from there all due steps are called at once
-    pub settles-at-once : (r : Ran) → RunDue q r → AllDueDone q r
+    pub settles-at-once : (r : DueOutcome) → RunDue q r → AllDueDone q r
     -- the unsettled list is in clock order
     pub clock-order : Ordered before (shiftBook .plan .tentative)
     -- neither step counter is ever above 262,656

@@ -17,7 +17,7 @@ use Rattle.creek.specs.Calls.{isUndo, isExecute}
 use Rattle.creek.specs.Showing.{undosShown, executionsShown}
 use Rattle.creek.specs.Examples.{setTo, make}
 use Rattle.replica.specs.State.{State, Opened, Called}
-use Rattle.due.specs.Due.{Ran, noReply, RunDue}
+use Rattle.due.specs.Due.{DueOutcome, noReply, RunDue}
 use Rattle.replica.specs.declared.RegisterValue.{RegisterValue}
 use Rattle.replica.specs.Model.{model, Inv, Fresh, Kept}
 use Rattle.replica.specs.Shown.{RegisterShown}
@@ -42,7 +42,7 @@ singly calls = map single calls
 pub record Panel : Type 0 where
   pub fresh : ℕ → ℕ → Opened
   pub call : State → Call → Called
-  pub run-due : State → Ran
+  pub run-due : State → DueOutcome
   pub register : State → ℕ → RegisterValue
   pub undos : State → ℕ
   pub executions : State → ℕ

@@ -126,15 +126,15 @@ pub fn receive<'a>(
             }
         }
         wire::Answer::End => untaken(core, refusal::ACCEPTED),
-        wire::Answer::Refused(word) => untaken(core, word),
+        wire::Answer::Refused(refusal) => untaken(core, refusal),
     }
 }
 
 // Nothing was taken in, by that refusal.
-fn untaken(core: Core, word: u8) -> ReceiveResult
-    ensures { λ r. ⌜ r ≡ nothing core word ⌝ }
+fn untaken(core: Core, refusal: u8) -> ReceiveResult
+    ensures { λ r. ⌜ r ≡ nothing core refusal ⌝ }
 {
-    let answer = replica::refused(word);
+    let answer = replica::refused(refusal);
     let receipt = Receipt { taken: 0, answer };
     ReceiveResult { core, receipt }
 }

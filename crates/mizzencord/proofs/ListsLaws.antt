@@ -5,17 +5,17 @@ use mathlib.Core.Bool.{Bool, true, false, not, cond}
 use mathlib.Core.List.{List}
 use Rattle.request.specs.Refusal.{noRoom}
 use Rattle.replica.specs.State.{State}
-use Rattle.driver.specs.declared.Ran.{Ran as RanOf}
+use Rattle.driver.specs.declared.RunResult.{RunResult}
 use Rattle.creek.specs.Calls.{freshRefusal}
 use Rattle.encoding.specs.Encoding.{panelsOf, ownOf, tight}
-use Rattle.driver.specs.Running.{Ran}
+use Rattle.driver.specs.Running.{RanList}
 use Rattle.mizzencord.specs.Lists.{Answered}
 
 not-twice : (b : Bool) → not (not b) ≡ b
 not-twice true = refl
 not-twice false = refl
 
-module _ {s out out′ : List ℕ} {r : RanOf} {q : State} (ran : Ran s out out′ r q) where
+module _ {s out out′ : List ℕ} {r : RunResult} {q : State} (ran : RanList s out out′ r q) where
   is-tight : (room : Bool) → r .room ≡ room → tight s out ≡ not room
   is-tight room is = sym (not-twice (tight s out)) ∙ subst (λ (b : Bool). not (not (tight s out)) ≡ not b) (sym (ran .room) ∙ is) refl
 

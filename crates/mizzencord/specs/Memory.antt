@@ -1,7 +1,7 @@
 -- A panel in place, as the state that the contracts of the calls speak of.
 use Rattle.replica.specs.State.{State, packed}
 use Rattle.due.specs.declared.DueSteps.{DueSteps}
-use Rattle.due.specs.Due.{Ran}
+use Rattle.due.specs.Due.{DueOutcome}
 use Rattle.mizzencord.specs.declared.Panel.{Panel}
 
 abbrev pub memory : Panel → State
@@ -10,5 +10,5 @@ memory p =
     (p .registers) (p .saved) (p .responses)
 
 -- all due steps with that result led to that state
-abbrev pub ran : DueSteps → State → Ran
+abbrev pub ran : DueSteps → State → DueOutcome
 ran r q = record { undos = r .undos; executions = r .executions; count = r .count; replies = r .replies; state = q }

@@ -5,7 +5,7 @@ use mathlib.Core.List.{List, [], _∷_, _++_}
 use lib.ListN.{length, getD}
 use lib.Dec.{ltb}
 use Rattle.numbers.specs.declared.Number.{Number}
-use Rattle.request.specs.Refusal as refusal
+use Rattle.request.specs.Refusal as refusedBy
 use Rattle.creek.specs.Execution.{registers}
 use Rattle.creek.specs.Calls.{Replica, badShop, fresh, step, answer}
 use Rattle.creek.specs.History.{idled}
@@ -78,19 +78,19 @@ numberIn (settlement n) = n
 
 -- a message's line, at its place among the messages, with its refusal and the undos done since the line before
 unfoldable pub lineOfMessage : ℕ → BusMessage → ℕ → ℕ → List ℕ
-lineOfMessage place m word undone =
-    messageLine place (kindNumber (kindOf m)) (numberIn m .panel .0) (numberIn m .event .0) word undone
+lineOfMessage place m refusal undone =
+    messageLine place (kindNumber (kindOf m)) (numberIn m .panel .0) (numberIn m .event .0) refusal undone
 
 -- the line of what was found, at its place among the messages, with the refusal and the undos done since the line before
 unfoldable pub lineFor : ℕ → Outcome → ℕ → ℕ → List ℕ
-lineFor place (message m n) word undone = lineOfMessage place m word undone
-lineFor place end word undone = []
-lineFor place (refused w) word undone = unreadLine place w
+lineFor place (message m n) refusal undone = lineOfMessage place m refusal undone
+lineFor place end refusal undone = []
+lineFor place (refused w) refusal undone = unreadLine place w
 
 -- the refusal of hear or settle, or 0
 unfoldable pub refusalIn : Replica → Outcome → ℕ
 refusalIn r (message m n) = answer r (callOf m) .refusal
-refusalIn r end = refusal.accepted
+refusalIn r end = refusedBy.accepted
 refusalIn r (refused w) = w
 
 -- the undos done from before what was found until the replica is idle
@@ -118,8 +118,8 @@ printoutOf panels own os =
 -- the printout of the bytes s: under two bytes and a bad shop have a line of their own and no other
 unfoldable pub printout : List ℕ → List ℕ
 printout s =
-    cond (ltb (length s) shopBytes) (refusedLine refusal.cutShort)
-    (cond (badShop (getD s 0 0) (getD s 1 0)) (refusedLine refusal.badShop)
+    cond (ltb (length s) shopBytes) (refusedLine refusedBy.cutShort)
+    (cond (badShop (getD s 0 0) (getD s 1 0)) (refusedLine refusedBy.badShop)
     (printoutOf (getD s 0 0) (getD s 1 0) (foundFrom s shopBytes)))
 
 -- ---- its size

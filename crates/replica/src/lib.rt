@@ -182,11 +182,11 @@ pub fn no_request() -> Request
 }
 
 // The answer of a refused call that names no request.
-pub fn refused(word: u8) -> Answer
-    ensures { λ a. ⌜ a ≡ refusedWith word noNumber ⌝ }
+pub fn refused(refusal: u8) -> Answer
+    ensures { λ a. ⌜ a ≡ refusedWith refusal noNumber ⌝ }
 {
     Answer {
-        refusal: word,
+        refusal,
         request: no_request(),
         number: Number {
             panel: PanelNo(0),

@@ -10,7 +10,7 @@ use Rattle.request.specs.Operations.{lastRegister}
 use Rattle.registers.specs.Effect.{range}
 use Rattle.registers.proofs.FrameLaws.{InRange}
 use Rattle.text.specs.Text.{ascii, significant, decimal, restOfLine, line}
-use Rattle.text.proofs.DecimalLaws.{decimal-short, of-byte, of-short, of-word}
+use Rattle.text.proofs.DecimalLaws.{decimal-short, of-byte, of-short, of-wide}
 use Rattle.report.specs.Lines.{boardLine, refusedLine, messageLine, unreadLine, totalsLine}
 use Rattle.report.specs.Lines.{registerLine, lineUnlessZero, registerLinesFrom, registerLines}
 use Rattle.report.specs.Sizes.{mostBoardBytes, mostRefusedBytes, mostMessageBytes, mostTotalsBytes}
@@ -31,25 +31,25 @@ unfolding messageLine line restOfLine
 message-short place kind panel event refusal undone l k p e f u =
     simp length-append
     (omega
-    (arith, of-word place l, of-short kind k, of-byte panel p, of-byte event e, of-byte refusal f, of-word undone u))
+    (arith, of-wide place l, of-short kind k, of-byte panel p, of-byte event e, of-byte refusal f, of-wide undone u))
 
 pub unread-short : (place refusal : ℕ) → place < 2 ^ 32 → refusal < 2 ^ 8 → length (unreadLine place refusal) ≤ mostMessageBytes
 unfolding unreadLine line restOfLine ascii
 unread-short place refusal l f =
-    simp length-append (omega (arith, of-word place l, of-byte refusal f, of-byte 0 (omega arith)))
+    simp length-append (omega (arith, of-wide place l, of-byte refusal f, of-byte 0 (omega arith)))
 
 pub totals-short : (settled unsettled undone carried : ℕ)
     → settled < 2 ^ 16 → unsettled < 2 ^ 16 → undone < 2 ^ 32 → carried < 2 ^ 32
     → length (totalsLine settled unsettled undone carried) ≤ mostTotalsBytes
 unfolding totalsLine line restOfLine ascii
 totals-short settled unsettled undone carried s t u c =
-    simp length-append (omega (arith, of-short settled s, of-short unsettled t, of-word undone u, of-word carried c))
+    simp length-append (omega (arith, of-short settled s, of-short unsettled t, of-wide undone u, of-wide carried c))
 
 pub register-short : (register value : ℕ) → register < 10 ^ registerDigits → value < range
     → length (registerLine register value) ≤ mostRegisterBytes
 unfolding registerLine line restOfLine ascii
 register-short register value r v =
-    simp length-append (omega (arith, decimal-short registerDigits register (omega arith) r, of-word value v))
+    simp length-append (omega (arith, decimal-short registerDigits register (omega arith) r, of-wide value v))
 
 unless-zero-short : (register value : ℕ) (none : Bool) → eqb value 0 ≡ none → register < 10 ^ registerDigits → value < range
     → length (lineUnlessZero register value) ≤ mostRegisterBytes

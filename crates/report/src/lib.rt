@@ -3,13 +3,13 @@
 // Every function puts one line of `specs/Lines`, or the registers' lines, at `at` in `out`, leaves every other byte alone and returns
 // the place behind it. `out` must have room for the line: whoever lends the bytes for a whole printout tests their length, and
 // `proofs/SizeLaws` says how long each line is at most.
-ghost use Rattle.text.specs.Placed.{Room, Written};
+ghost use Rattle.text.specs.Placed.{Room, Placed};
 ghost use Rattle.report.specs.Lines.{boardLine, refusedLine, messageLine, unreadLine, totalsLine, lineUnlessZero, registerLines};
 
 // Puts the line of a good shop.
 pub fn put_board(out: &mut [u8], at: usize, panels: u64, own: u64) -> usize
     requires { ⌜ Room (now out) at (boardLine panels own) ⌝ }
-    ensures { λ behind. ⌜ Written (now (out .entry)) at (boardLine panels own) (now (out .exit)) behind ⌝ }
+    ensures { λ behind. ⌜ Placed (now (out .entry)) at (boardLine panels own) (now (out .exit)) behind ⌝ }
 {
     text::put_line(out, at, b"board", &[panels, own])
 }
@@ -17,7 +17,7 @@ pub fn put_board(out: &mut [u8], at: usize, panels: u64, own: u64) -> usize
 // Puts the line of a refused shop.
 pub fn put_refused(out: &mut [u8], at: usize, refusal: u64) -> usize
     requires { ⌜ Room (now out) at (refusedLine refusal) ⌝ }
-    ensures { λ behind. ⌜ Written (now (out .entry)) at (refusedLine refusal) (now (out .exit)) behind ⌝ }
+    ensures { λ behind. ⌜ Placed (now (out .entry)) at (refusedLine refusal) (now (out .exit)) behind ⌝ }
 {
     text::put_line(out, at, b"board refused", &[refusal])
 }
@@ -34,7 +34,7 @@ pub fn put_message(
     undone: u64,
 ) -> usize
     requires { ⌜ Room (now out) at (messageLine place kind panel event refusal undone) ⌝ }
-    ensures { λ behind. ⌜ Written (now (out .entry)) at (messageLine place kind panel event refusal undone) (now (out .exit)) behind ⌝ }
+    ensures { λ behind. ⌜ Placed (now (out .entry)) at (messageLine place kind panel event refusal undone) (now (out .exit)) behind ⌝ }
 {
     let kind_at = text::put_number(out, at, place);
     text::end_line(out, kind_at, &[kind, panel, event, refusal, undone])
@@ -43,7 +43,7 @@ pub fn put_message(
 // Puts the line of a message that cannot be read.
 pub fn put_unread(out: &mut [u8], at: usize, place: u64, refusal: u64) -> usize
     requires { ⌜ Room (now out) at (unreadLine place refusal) ⌝ }
-    ensures { λ behind. ⌜ Written (now (out .entry)) at (unreadLine place refusal) (now (out .exit)) behind ⌝ }
+    ensures { λ behind. ⌜ Placed (now (out .entry)) at (unreadLine place refusal) (now (out .exit)) behind ⌝ }
 {
     let dashes_at = text::put_number(out, at, place);
     text::put_line(out, dashes_at, b" - - -", &[refusal, 0])
@@ -59,7 +59,7 @@ pub fn put_totals(
     carried: u64,
 ) -> usize
     requires { ⌜ Room (now out) at (totalsLine settled unsettled undone carried) ⌝ }
-    ensures { λ behind. ⌜ Written (now (out .entry)) at (totalsLine settled unsettled undone carried) (now (out .exit)) behind ⌝ }
+    ensures { λ behind. ⌜ Placed (now (out .entry)) at (totalsLine settled unsettled undone carried) (now (out .exit)) behind ⌝ }
 {
     let unsettled_at = text::put_labelled(out, at, b"settled ", settled);
     let undone_at = text::put_labelled(out, unsettled_at, b" unsettled ", unsettled);
@@ -70,7 +70,7 @@ pub fn put_totals(
 // Puts a register's line, or nothing if it is 0.
 pub fn put_register(out: &mut [u8], at: usize, register: u64, value: u64) -> usize
     requires { ⌜ Room (now out) at (lineUnlessZero register value) ⌝ }
-    ensures { λ behind. ⌜ Written (now (out .entry)) at (lineUnlessZero register value) (now (out .exit)) behind ⌝ }
+    ensures { λ behind. ⌜ Placed (now (out .entry)) at (lineUnlessZero register value) (now (out .exit)) behind ⌝ }
 {
     if value == 0 {
         return at;
@@ -81,7 +81,7 @@ pub fn put_register(out: &mut [u8], at: usize, register: u64, value: u64) -> usi
 // Puts a line for each register that is not 0, rising.
 pub fn put_registers(out: &mut [u8], at: usize, registers: &[u32]) -> usize
     requires { ⌜ Room (now out) at (registerLines (now registers)) ⌝ }
-    ensures { λ behind. ⌜ Written (now (out .entry)) at (registerLines (now (registers .entry))) (now (out .exit)) behind ⌝ }
+    ensures { λ behind. ⌜ Placed (now (out .entry)) at (registerLines (now (registers .entry))) (now (out .exit)) behind ⌝ }
 {
     let mut p = at;
     let mut i = 0;

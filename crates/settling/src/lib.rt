@@ -38,9 +38,9 @@ pub fn commit<'a>(
         (now (contexts .entry)) (now (order .entry)) (now (stack .entry)) (now (responses .entry)) n
         (now (known .exit)) (now (awaiting .exit)) (now (order .exit)) r ⌝ }
 {
-    let word = number_refusal(core.panels, held, n);
-    if word != refusal::ACCEPTED {
-        let answer = replica::refused(word);
+    let refusal = number_refusal(core.panels, held, n);
+    if refusal != refusal::ACCEPTED {
+        let answer = replica::refused(refusal);
         return CallResult { core, answer };
     }
     let slot = numbers::slot_of(n);

@@ -8,8 +8,8 @@ use native.Mathlib.Omega.{arith}
 use lib.ListN.{length, getD}
 use borrow.Author.Tests.{lt-ltb, le-ltb}
 use Rattle.numbers.specs.declared.Number.{Number}
-use Rattle.request.specs.Refusal as refusal
-use Rattle.text.specs.Placed.{Written}
+use Rattle.request.specs.Refusal as refusedBy
+use Rattle.text.specs.Placed.{Placed}
 use Rattle.text.proofs.PlacedLaws.{then, Left, left-start, left-step, left-end, nothing}
 use Rattle.report.specs.Lines.{boardLine, refusedLine, messageLine, unreadLine, totalsLine, registerLines}
 use Rattle.report.specs.Sizes.{mostMessageBytes}
@@ -22,7 +22,7 @@ use Rattle.creek.specs.Book.{Call}
 use Rattle.creek.specs.Calls.{Replica, badShop, freshRefusal, fresh, step, answer}
 use Rattle.creek.specs.Showing.{undosShown, executionsShown}
 use Rattle.replica.specs.State.{State, Called}
-use Rattle.due.specs.Due.{Ran}
+use Rattle.due.specs.Due.{DueOutcome}
 use Rattle.replica.specs.Model.{model, Inv, Kept}
 use Rattle.due.specs.Due.{RunDue}
 use Rattle.replica.specs.Shown.{registersShown, committedShown}
@@ -52,7 +52,7 @@ use Rattle.printed.proofs.FoundLaws.{bytesOf, Takes, whole, all, takes, taken-w
 abbrev pub stateAfter : {p : State} {c : Call} {r : Called} → Kept p c r → State
 stateAfter {r = r} kept = r .state
 
-module _ (p : State) (m : BusMessage) (c : Called) (kept : Kept p (callOf m) c) (ran : Ran) (due : RunDue (c .state) ran) where
+module _ (p : State) (m : BusMessage) (c : Called) (kept : Kept p (callOf m) c) (ran : DueOutcome) (due : RunDue (c .state) ran) where
   done : model (ran .state) ≡ idled (step (model p) (callOf m))
   done = due .state ∙ ap idled (kept .state)
 
@@ -60,10 +60,10 @@ module _ (p : State) (m : BusMessage) (c : Called) (kept : Kept p (callOf m) c) 
   pub taken-in : ran .state .counters .undos ≡ p .counters .undos + ran .undos → (h : Heard) → h .refusal ≡ c .answer .refusal
       → h .undone ≡ ran .undos → TakenIn p m (ran .state) h
   unfolding after refusalIn model
-  taken-in counted h word undone = record {
+  taken-in counted h refusal undone = record {
     heard = λ n. record {
       panel = record { state = done; invariant = due .invariant };
-      refusal = word ∙ ap (λ (a : Reply). a .refusal) (kept .answer);
+      refusal = refusal ∙ ap (λ (a : Reply). a .refusal) (kept .answer);
       undone = omega (arith, undone, counted, ap undosShown done);
     };
   }
@@ -73,16 +73,16 @@ module _ (p : State) (r : Reading) (inv : Inv p) where
   alone : Stands p (model p)
   alone = record { state = refl; invariant = inv }
 
-  pub heard-end : r .answer ≡ End → (h : Heard) → h .refusal ≡ refusal.accepted → h .undone ≡ 0 → HeardAs p r p h
+  pub heard-end : r .answer ≡ End → (h : Heard) → h .refusal ≡ refusedBy.accepted → h .undone ≡ 0 → HeardAs p r p h
   unfolding after refusalIn
-  heard-end f h word none = record {
-    heard = end-only r (λ o. HeardOf (model p) o p h) f (record { panel = alone; refusal = word; undone = omega (arith, none) });
+  heard-end f h refusal none = record {
+    heard = end-only r (λ o. HeardOf (model p) o p h) f (record { panel = alone; refusal = refusal; undone = omega (arith, none) });
   }
 
   pub heard-refused : (w : ℕ) → r .answer ≡ Refused w → (h : Heard) → h .refusal ≡ w → h .undone ≡ 0 → HeardAs p r p h
   unfolding after refusalIn
-  heard-refused w f h word none = record {
-    heard = refused-only r (λ o. HeardOf (model p) o p h) w f (record { panel = alone; refusal = word; undone = omega (arith, none) });
+  heard-refused w f h refusal none = record {
+    heard = refused-only r (λ o. HeardOf (model p) o p h) w f (record { panel = alone; refusal = refusal; undone = omega (arith, none) });
   }
 
 pub heard-message : (p : State) (r : Reading) (q : State) (h : Heard) → r .answer ≡ aMessage → TakenIn p (said (r .message)) q h
@@ -101,38 +101,38 @@ unfolding numberIn
 number-by m true e = rw (said-settlement m e)
 number-by m false e = rw (said-request m e)
 
-pub message-line : (place : ℕ) (m : Message) (kind word undone : ℕ) → kind ≡ kindNumber (kindOf (said m))
+pub message-line : (place : ℕ) (m : Message) (kind refusal undone : ℕ) → kind ≡ kindNumber (kindOf (said m))
     → let n = m .request .number in
-    lineOfMessage place (said m) word undone ≡ messageLine place kind (n .panel .0) (n .event .0) word undone
+    lineOfMessage place (said m) refusal undone ≡ messageLine place kind (n .panel .0) (n .event .0) refusal undone
 unfolding lineOfMessage
-message-line place m kind word undone e =
+message-line place m kind refusal undone e =
     let n = m .request .number in
     let named = number-by m (m .settles) refl in
-    ap (λ (x : Number). messageLine place (kindNumber (kindOf (said m))) (x .panel .0) (x .event .0) word undone) named
-    ∙ ap (λ (k : ℕ). messageLine place k (n .panel .0) (n .event .0) word undone) (sym e)
+    ap (λ (x : Number). messageLine place (kindNumber (kindOf (said m))) (x .panel .0) (x .event .0) refusal undone) named
+    ∙ ap (λ (k : ℕ). messageLine place k (n .panel .0) (n .event .0) refusal undone) (sym e)
 
-module _ (place : ℕ) (r : Reading) (word undone : ℕ) (out : List ℕ) (at : ℕ) where
+module _ (place : ℕ) (r : Reading) (refusal undone : ℕ) (out : List ℕ) (at : ℕ) where
   pub put-message-line : (out′ : List ℕ) (behind : ℕ) → r .answer ≡ aMessage
-      → Written out at (lineOfMessage place (said (r .message)) word undone) out′ behind → behind ≤ at + mostMessageBytes
-      → LinePut place r word undone out at out′ behind
+      → Placed out at (lineOfMessage place (said (r .message)) refusal undone) out′ behind → behind ≤ at + mostMessageBytes
+      → LinePut place r refusal undone out at out′ behind
   unfolding lineFor
   put-message-line out′ behind f w few = record {
-    written = message-only r (λ o. Written out at (lineFor place o word undone) out′ behind) f w;
+    written = message-only r (λ o. Placed out at (lineFor place o refusal undone) out′ behind) f w;
     few = few;
   }
 
-  pub put-end-line : r .answer ≡ End → LinePut place r word undone out at out at
+  pub put-end-line : r .answer ≡ End → LinePut place r refusal undone out at out at
   unfolding lineFor
   put-end-line f = record {
-    written = end-only r (λ o. Written out at (lineFor place o word undone) out at) f (nothing out at);
+    written = end-only r (λ o. Placed out at (lineFor place o refusal undone) out at) f (nothing out at);
     few = omega arith;
   }
 
   pub put-unread-line : (out′ : List ℕ) (behind : ℕ) (w : ℕ) → r .answer ≡ Refused w → w < 2 ^ 8 → place ≤ mostInput
-      → Written out at (unreadLine place w) out′ behind → LinePut place r word undone out at out′ behind
+      → Placed out at (unreadLine place w) out′ behind → LinePut place r refusal undone out at out′ behind
   unfolding lineFor
   put-unread-line out′ behind w f small low v = record {
-    written = refused-only r (λ o. Written out at (lineFor place o word undone) out′ behind) w f v;
+    written = refused-only r (λ o. Placed out at (lineFor place o refusal undone) out′ behind) w f v;
     few = omega (arith, v .place, unread-short place w (omega arith) small);
   }
 
@@ -219,11 +219,11 @@ put-end r s out from out₁ p at behind place h low put e is =
 
 -- ---- the whole printout
 
-pub printout-short : (s : List ℕ) → length s < shopBytes → printout s ≡ refusedLine refusal.cutShort
+pub printout-short : (s : List ℕ) → length s < shopBytes → printout s ≡ refusedLine refusedBy.cutShort
 unfolding printout
 printout-short s h = rw (lt-ltb (length s) shopBytes h)
 
-pub printout-bad : (s : List ℕ) → shopBytes ≤ length s → badShop (getD s 0 0) (getD s 1 0) ≡ true → printout s ≡ refusedLine refusal.badShop
+pub printout-bad : (s : List ℕ) → shopBytes ≤ length s → badShop (getD s 0 0) (getD s 1 0) ≡ true → printout s ≡ refusedLine refusedBy.badShop
 unfolding printout
 printout-bad s h e = rw (le-ltb (length s) shopBytes h, e)
 
@@ -250,35 +250,35 @@ closing-is r settled unsettled undone carried values e f g h k = rw (e, f, g, h,
 abbrev pub standing : {q : State} {r : Replica} → Stands q r → State
 standing {q = q} stands = q
 
-fresh-by : (panels own w : ℕ) (v : Bool) → badShop panels own ≡ v → w ≡ freshRefusal panels own → (w ≡ refusal.accepted → ⊥) → v ≡ true
+fresh-by : (panels own w : ℕ) (v : Bool) → badShop panels own ≡ v → w ≡ freshRefusal panels own → (w ≡ refusedBy.accepted → ⊥) → v ≡ true
 unfolding freshRefusal
 fresh-by panels own w true e f h = refl
 fresh-by panels own w false e f h = absurd (h (f ∙ rw e))
 
-pub fresh-bad : (panels own w : ℕ) → w ≡ freshRefusal panels own → (w ≡ refusal.accepted → ⊥) → badShop panels own ≡ true
+pub fresh-bad : (panels own w : ℕ) → w ≡ freshRefusal panels own → (w ≡ refusedBy.accepted → ⊥) → badShop panels own ≡ true
 fresh-bad panels own w f h = fresh-by panels own w (badShop panels own) refl f h
 
-opened-by : (panels own w : ℕ) (v : Bool) → badShop panels own ≡ v → w ≡ freshRefusal panels own → w ≡ refusal.accepted → v ≡ false
+opened-by : (panels own w : ℕ) (v : Bool) → badShop panels own ≡ v → w ≡ freshRefusal panels own → w ≡ refusedBy.accepted → v ≡ false
 unfolding freshRefusal
 opened-by panels own w true e f h =
-    let bad : freshRefusal panels own ≡ refusal.badShop = rw e in
+    let bad : freshRefusal panels own ≡ refusedBy.badShop = rw e in
     absurd (omega (arith, f, h, bad))
 opened-by panels own w false e f h = refl
 
-pub fresh-good : (panels own w : ℕ) → w ≡ freshRefusal panels own → w ≡ refusal.accepted → badShop panels own ≡ false
+pub fresh-good : (panels own w : ℕ) → w ≡ freshRefusal panels own → w ≡ refusedBy.accepted → badShop panels own ≡ false
 fresh-good panels own w f h = opened-by panels own w (badShop panels own) refl f h
 
 -- the three parts of a good shop's printout, one behind the other
 pub printed : (s : List ℕ) → shopBytes ≤ length s → badShop (getD s 0 0) (getD s 1 0) ≡ false
     → (r : Replica) → r ≡ fresh (getD s 0 0) (getD s 1 0)
     → (out out₁ out₂ out₃ : List ℕ) (at₁ at₃ : ℕ) (q : State) (e : Ended)
-    → Written out 0 (boardLine (getD s 0 0) (getD s 1 0)) out₁ at₁ → AllPut r s out₁ at₁ out₂ q e
-    → Written out₂ (e .behind) (closing (model q)) out₃ at₃ → Written out 0 (printout s) out₃ at₃
+    → Placed out 0 (boardLine (getD s 0 0) (getD s 1 0)) out₁ at₁ → AllPut r s out₁ at₁ out₂ q e
+    → Placed out₂ (e .behind) (closing (model q)) out₃ at₃ → Placed out 0 (printout s) out₃ at₃
 printed s h good r er out out₁ out₂ out₃ at₁ at₃ q e first put last =
     let found = foundFrom s shopBytes in
-    let lines : Written out₁ at₁ (messageLines 1 (fresh (getD s 0 0) (getD s 1 0)) found) out₂ (e .behind) =
-    subst (λ (x : Replica). Written out₁ at₁ (messageLines 1 x found) out₂ (e .behind)) er (put .lines) in
+    let lines : Placed out₁ at₁ (messageLines 1 (fresh (getD s 0 0) (getD s 1 0)) found) out₂ (e .behind) =
+    subst (λ (x : Replica). Placed out₁ at₁ (messageLines 1 x found) out₂ (e .behind)) er (put .lines) in
     let end-is : model q ≡ afterAll (fresh (getD s 0 0) (getD s 1 0)) found =
     put .panel .state ∙ ap (λ (x : Replica). afterAll x found) er in
-    let closed = subst (λ (x : Replica). Written out₂ (e .behind) (closing x) out₃ at₃) end-is last in
+    let closed = subst (λ (x : Replica). Placed out₂ (e .behind) (closing x) out₃ at₃) end-is last in
     rw (printout-good s h good) (then first (then lines closed))

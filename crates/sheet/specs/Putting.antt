@@ -4,7 +4,7 @@ use mathlib.Core.Path.{_≡_}
 use mathlib.Core.Bool.{false}
 use mathlib.Core.List.{List}
 use lib.ListN.{length, take, getD}
-use Rattle.text.specs.Placed.{Written}
+use Rattle.text.specs.Placed.{Placed}
 use Rattle.report.specs.Sizes.{mostMessageBytes, mostTotalsBytes, mostRegistersBytes}
 use Rattle.counters.specs.declared.Counters.{Counters}
 use Rattle.creek.specs.Calls.{Replica, badShop, fresh}
@@ -43,19 +43,19 @@ pub record HeardAs (p : State) (r : Reading) (q : State) (h : Heard) : Type 0 wh
 -- ---- putting
 
 -- the line of a message was put
-pub record MessageLinePut (place : ℕ) (m : BusMessage) (word undone : ℕ) (out : List ℕ) (at : ℕ) (out′ : List ℕ) (behind : ℕ) : Type 0 where
-  pub written : Written out at (lineOfMessage place m word undone) out′ behind
+pub record MessageLinePut (place : ℕ) (m : BusMessage) (refusal undone : ℕ) (out : List ℕ) (at : ℕ) (out′ : List ℕ) (behind : ℕ) : Type 0 where
+  pub written : Placed out at (lineOfMessage place m refusal undone) out′ behind
   pub few : behind ≤ at + mostMessageBytes
 
 -- the line of what was answered by the reader was put
-pub record LinePut (place : ℕ) (r : Reading) (word undone : ℕ) (out : List ℕ) (at : ℕ) (out′ : List ℕ) (behind : ℕ) : Type 0 where
-  pub written : (o : Outcome) → r ≡ answered o → Written out at (lineFor place o word undone) out′ behind
+pub record LinePut (place : ℕ) (r : Reading) (refusal undone : ℕ) (out : List ℕ) (at : ℕ) (out′ : List ℕ) (behind : ℕ) : Type 0 where
+  pub written : (o : Outcome) → r ≡ answered o → Placed out at (lineFor place o refusal undone) out′ behind
   pub few : behind ≤ at + mostMessageBytes
 
 -- all that is found in the input was heard, beginning at r, and its lines were put; q is the panel then
 pub record AllPut (r : Replica) (s out : List ℕ) (at : ℕ) (out′ : List ℕ) (q : State) (e : Ended) : Type 0 where
   pub panel : Stands q (afterAll r (foundFrom s shopBytes))
-  pub lines : Written out at (messageLines 1 r (foundFrom s shopBytes)) out′ (e .behind)
+  pub lines : Placed out at (messageLines 1 r (foundFrom s shopBytes)) out′ (e .behind)
   pub few : e .behind ≤ at + mostMessages * mostMessageBytes
 
 -- p with that core, those counters and those registers
@@ -72,7 +72,7 @@ pub record ClosingAsks (core : Core) (counters : Counters) (registers : List ℕ
 -- the list lengths, the step totals and the registers of every such panel were put
 pub record ClosingPut (core : Core) (counters : Counters) (registers out : List ℕ) (at : ℕ) (out′ : List ℕ) (behind : ℕ) : Type 0 where
   pub written : (p : State) → Inv (closingParts p core counters registers)
-      → Written out at (closing (model (closingParts p core counters registers))) out′ behind
+      → Placed out at (closing (model (closingParts p core counters registers))) out′ behind
   pub few : behind ≤ at + mostTotalsBytes + mostRegistersBytes
 
 -- the input names a good shop, and q is its panel at a shift's first moment
@@ -83,7 +83,7 @@ pub record Opens (s : List ℕ) (q : State) : Type 0 where
 
 -- the printout of all the input's bytes stands at the front
 pub record PrintoutPut (input out out′ : List ℕ) (behind : ℕ) : Type 0 where
-  pub written : Written out 0 (printout input) out′ behind
+  pub written : Placed out 0 (printout input) out′ behind
   pub few : behind ≤ mostPrinted
 
 -- the whole printout: lent bytes that might not do are left alone and 0 is returned; otherwise it stands at their front

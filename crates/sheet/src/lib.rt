@@ -169,10 +169,10 @@ fn hear(
             refusal: refusal::ACCEPTED,
             undone: 0,
         },
-        Answer::Refused(word) => Heard {
+        Answer::Refused(refusal) => Heard {
             core,
             counters,
-            refusal: word,
+            refusal,
             undone: 0,
         },
     }
@@ -184,12 +184,12 @@ fn put_message_line(
     at: usize,
     place: u64,
     m: Message,
-    word: u8,
+    refusal: u8,
     undone: u32,
 ) -> usize
     requires { ⌜ at + mostMessageBytes ≤ length (now out) ⌝ }
     requires { ⌜ place ≤ mostInput ⌝ }
-    ensures { λ r. ⌜ MessageLinePut place (said m) word undone (now (out .entry)) at (now (out .exit)) r ⌝ }
+    ensures { λ r. ⌜ MessageLinePut place (said m) refusal undone (now (out .entry)) at (now (out .exit)) r ⌝ }
 {
     let kind = wire::layout::kind_number(wire::held::kind_of(m));
     let x = m.request;
@@ -203,20 +203,20 @@ fn put_message_line(
         kind as u64,
         panel as u64,
         event as u64,
-        word as u64,
+        refusal as u64,
         undone as u64,
     )
 }
 
 // Puts the line of what was found.
-fn put_line(out: &mut [u8], at: usize, place: u64, r: Reading, word: u8, undone: u32) -> usize
+fn put_line(out: &mut [u8], at: usize, place: u64, r: Reading, refusal: u8, undone: u32) -> usize
     requires { ⌜ at + mostMessageBytes ≤ length (now out) ⌝ }
     requires { ⌜ place ≤ mostInput ⌝ }
-    ensures { λ behind. ⌜ LinePut place r word undone (now (out .entry)) at (now (out .exit)) behind ⌝ }
+    ensures { λ behind. ⌜ LinePut place r refusal undone (now (out .entry)) at (now (out .exit)) behind ⌝ }
 {
     let answer = r.answer;
     match answer {
-        Answer::Message => put_message_line(out, at, place, r.message, word, undone),
+        Answer::Message => put_message_line(out, at, place, r.message, refusal, undone),
         Answer::End => at,
         Answer::Refused(unread) => report::put_unread(out, at, place, unread as u64),
     }

@@ -7,7 +7,7 @@ use lib.ListN.{length, length-append}
 use borrow.Author.Tests.{lt-ltb}
 use Rattle.io.specs.Digits.{glyph, digits, Fewest}
 use Rattle.text.specs.Text.{digit, significant, decimal}
-use Rattle.text.specs.Sizes.{byteDigits, shortDigits, wordDigits}
+use Rattle.text.specs.Sizes.{byteDigits, shortDigits, wideDigits}
 
 -- ---- the kit's digits
 
@@ -75,5 +75,5 @@ module _ (n : ℕ) where
   pub of-short : n < 2 ^ 16 → length (decimal n) ≤ shortDigits
   of-short fits = decimal-short shortDigits n (omega arith) (omega arith)
 
-  pub of-word : n < 2 ^ 32 → length (decimal n) ≤ wordDigits
-  of-word fits = decimal-short wordDigits n (omega arith) (omega arith)
+  pub of-wide : n < 2 ^ 32 → length (decimal n) ≤ wideDigits
+  of-wide fits = decimal-short wideDigits n (omega arith) (omega arith)

@@ -8,7 +8,7 @@ use mathlib.Core.Path.{_≡_, refl, sym, ap, _∙_}
 use mathlib.Core.List.{List, [], _∷_, _++_}
 use lib.ListN.{length, getD, set, drop, length-append}
 use lib.Seq.{sets, length-sets, drop-cons}
-use Rattle.text.specs.Placed.{Room, Written}
+use Rattle.text.specs.Placed.{Room, Placed}
 
 -- ---- one text behind another
 
@@ -19,16 +19,16 @@ sets-append (a ∷ s) t out at =
     rw e (sets-append s t (set out at a) (suc at))
 
 -- no text
-pub nothing : (out : List ℕ) (at : ℕ) → Written out at [] out at
+pub nothing : (out : List ℕ) (at : ℕ) → Placed out at [] out at
 nothing out at = record { bytes = refl; place = sym (add-zero at) }
 
 -- putting a text keeps the count of bytes
-pub same-size : {out text out′ : List ℕ} {at behind : ℕ} → Written out at text out′ behind → length out′ ≡ length out
+pub same-size : {out text out′ : List ℕ} {at behind : ℕ} → Placed out at text out′ behind → length out′ ≡ length out
 same-size {out} {text} {out′} {at} w = ap length (w .bytes) ∙ length-sets out at text
 
 -- two texts, one behind the other
-pub then : {out out₁ out₂ s t : List ℕ} {at at₁ at₂ : ℕ} → Written out at s out₁ at₁ → Written out₁ at₁ t out₂ at₂
-    → Written out at (s ++ t) out₂ at₂
+pub then : {out out₁ out₂ s t : List ℕ} {at at₁ at₂ : ℕ} → Placed out at s out₁ at₁ → Placed out₁ at₁ t out₂ at₂
+    → Placed out at (s ++ t) out₂ at₂
 then {out} {out₁} {out₂} {s} {t} {at} v w = record {
   bytes = w .bytes ∙ rw (v .bytes, v .place) (sets-append s t out at);
   place = omega (arith, length-append s t, v .place, w .place);
@@ -39,7 +39,7 @@ pub room-first : {out : List ℕ} {at : ℕ} (s t : List ℕ) → Room out at (s
 room-first s t r = record { fits = omega (arith, length-append s t) }
 
 -- and once it is put, the second fits behind it
-pub room-next : {out out₁ s : List ℕ} {at at₁ : ℕ} (t : List ℕ) → Written out at s out₁ at₁ → Room out at (s ++ t) → Room out₁ at₁ t
+pub room-next : {out out₁ s : List ℕ} {at at₁ : ℕ} (t : List ℕ) → Placed out at s out₁ at₁ → Room out at (s ++ t) → Room out₁ at₁ t
 room-next {out} {out₁} {s} t w r = record { fits = omega (arith, length-append s t, w .place, same-size w) }
 
 -- ---- a text piece by piece
@@ -60,7 +60,7 @@ pub left-room : {out text out₁ : List ℕ} {at at₁ : ℕ} (s rest : List ℕ
 left-room s rest r l = record { fits = omega (arith, length-append s rest, l .place, l .size) }
 
 -- and once it is put, the rest is left
-pub left-step : {out text out₁ s out₂ : List ℕ} {at at₁ at₂ : ℕ} (rest : List ℕ) → Written out₁ at₁ s out₂ at₂
+pub left-step : {out text out₁ s out₂ : List ℕ} {at at₁ at₂ : ℕ} (rest : List ℕ) → Placed out₁ at₁ s out₂ at₂
     → Left out at text out₁ at₁ (s ++ rest) → Left out at text out₂ at₂ rest
 left-step {out} {text} {out₁} {s} {out₂} {at} {at₁} rest w l = record {
   bytes = rw (w .bytes, w .place, sets-append s rest out₁ at₁) (l .bytes);
@@ -69,7 +69,7 @@ left-step {out} {text} {out₁} {s} {out₂} {at} {at₁} rest w l = record {
 }
 
 -- where nothing is left, the text is put
-pub left-end : {out text out₁ : List ℕ} {at at₁ : ℕ} → Left out at text out₁ at₁ [] → Written out at text out₁ at₁
+pub left-end : {out text out₁ : List ℕ} {at at₁ : ℕ} → Left out at text out₁ at₁ [] → Placed out at text out₁ at₁
 left-end l = record { bytes = l .bytes; place = omega (arith, l .place) }
 
 -- there is room for all that is left
@@ -77,8 +77,8 @@ pub left-room-rest : {out text out₁ rest : List ℕ} {at at₁ : ℕ} → Room
 left-room-rest r l = record { fits = omega (arith, l .place, l .size) }
 
 -- and once that is put, the text is
-pub left-rest : {out text out₁ rest out₂ : List ℕ} {at at₁ at₂ : ℕ} → Written out₁ at₁ rest out₂ at₂ → Left out at text out₁ at₁ rest
-    → Written out at text out₂ at₂
+pub left-rest : {out text out₁ rest out₂ : List ℕ} {at at₁ at₂ : ℕ} → Placed out₁ at₁ rest out₂ at₂ → Left out at text out₁ at₁ rest
+    → Placed out at text out₂ at₂
 left-rest w l = record { bytes = w .bytes ∙ l .bytes; place = w .place ∙ l .place }
 
 -- ---- one byte after another: what is left to put before byte i is put and after

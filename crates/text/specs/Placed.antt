@@ -10,6 +10,6 @@ pub record Room (out : List ℕ) (at : ℕ) (text : List ℕ) : Type 0 where
   pub fits : at + length text ≤ length out
 
 -- out′ is out with the text at the place and every other byte as it was, and behind is the place behind the text
-pub record Written (out : List ℕ) (at : ℕ) (text out′ : List ℕ) (behind : ℕ) : Type 0 where
+pub record Placed (out : List ℕ) (at : ℕ) (text out′ : List ℕ) (behind : ℕ) : Type 0 where
   pub bytes : out′ ≡ sets out at text
   pub place : behind ≡ at + length text

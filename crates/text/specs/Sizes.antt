@@ -7,5 +7,5 @@ byteDigits = 3
 abbrev pub shortDigits : ℕ
 shortDigits = 5
 
-abbrev pub wordDigits : ℕ
-wordDigits = 10
+abbrev pub wideDigits : ℕ
+wideDigits = 10

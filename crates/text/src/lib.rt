@@ -5,25 +5,25 @@
 // length. The laws that put a printout together from its parts are in `proofs/PlacedLaws`.
 ghost use mathlib.Core.List.{[], _∷_, _++_};
 ghost use Rattle.text.specs.Text.{decimal, numbers, restOfLine, line};
-ghost use Rattle.text.specs.Placed.{Room, Written};
+ghost use Rattle.text.specs.Placed.{Room, Placed};
 
 // Puts one byte.
 pub fn put_byte(out: &mut [u8], at: usize, byte: u8) -> usize
     requires { ⌜ Room (now out) at (byte ∷ []) ⌝ }
-    ensures { λ behind. ⌜ Written (now (out .entry)) at (byte ∷ []) (now (out .exit)) behind ⌝ }
+    ensures { λ behind. ⌜ Placed (now (out .entry)) at (byte ∷ []) (now (out .exit)) behind ⌝ }
 {
     out[at] = byte;
     at + 1
 }
 
-// Puts all bytes of `word`.
-pub fn put_word(out: &mut [u8], at: usize, word: &[u8]) -> usize
-    requires { ⌜ Room (now out) at (now word) ⌝ }
-    ensures { λ behind. ⌜ Written (now (out .entry)) at (now (word .entry)) (now (out .exit)) behind ⌝ }
+// Puts all those bytes.
+pub fn put_bytes(out: &mut [u8], at: usize, bytes: &[u8]) -> usize
+    requires { ⌜ Room (now out) at (now bytes) ⌝ }
+    ensures { λ behind. ⌜ Placed (now (out .entry)) at (now (bytes .entry)) (now (out .exit)) behind ⌝ }
 {
     let mut i = 0;
-    while i < word.len() {
-        out[at + i] = word[i];
+    while i < bytes.len() {
+        out[at + i] = bytes[i];
         i += 1;
     }
     at + i
@@ -32,26 +32,26 @@ pub fn put_word(out: &mut [u8], at: usize, word: &[u8]) -> usize
 // Puts n in decimal.
 pub fn put_number(out: &mut [u8], at: usize, n: u64) -> usize
     requires { ⌜ Room (now out) at (decimal n) ⌝ }
-    ensures { λ behind. ⌜ Written (now (out .entry)) at (decimal n) (now (out .exit)) behind ⌝ }
+    ensures { λ behind. ⌜ Placed (now (out .entry)) at (decimal n) (now (out .exit)) behind ⌝ }
 {
     let mut digits = [0u8; 20];
     let count = io::decimal(n, &mut digits);
-    put_word(out, at, &digits[..count])
+    put_bytes(out, at, &digits[..count])
 }
 
 // Puts `label` and then n in decimal.
 pub fn put_labelled(out: &mut [u8], at: usize, label: &[u8], n: u64) -> usize
     requires { ⌜ Room (now out) at (now label ++ decimal n) ⌝ }
-    ensures { λ behind. ⌜ Written (now (out .entry)) at (now (label .entry) ++ decimal n) (now (out .exit)) behind ⌝ }
+    ensures { λ behind. ⌜ Placed (now (out .entry)) at (now (label .entry) ++ decimal n) (now (out .exit)) behind ⌝ }
 {
-    let number_at = put_word(out, at, label);
+    let number_at = put_bytes(out, at, label);
     put_number(out, number_at, n)
 }
 
 // Puts each number of `ns` with a space in front of it, and then the line's end.
 pub fn end_line(out: &mut [u8], at: usize, ns: &[u64]) -> usize
     requires { ⌜ Room (now out) at (restOfLine (numbers (now ns))) ⌝ }
-    ensures { λ behind. ⌜ Written (now (out .entry)) at (restOfLine (numbers (now (ns .entry)))) (now (out .exit)) behind ⌝ }
+    ensures { λ behind. ⌜ Placed (now (out .entry)) at (restOfLine (numbers (now (ns .entry)))) (now (out .exit)) behind ⌝ }
 {
     let mut p = at;
     let mut i = 0;
@@ -65,8 +65,8 @@ pub fn end_line(out: &mut [u8], at: usize, ns: &[u64]) -> usize
 // Puts a line: `head`, and then each number of `ns` with a space in front of it.
 pub fn put_line(out: &mut [u8], at: usize, head: &[u8], ns: &[u64]) -> usize
     requires { ⌜ Room (now out) at (line (now head ∷ numbers (now ns))) ⌝ }
-    ensures { λ behind. ⌜ Written (now (out .entry)) at (line (now (head .entry) ∷ numbers (now (ns .entry)))) (now (out .exit)) behind ⌝ }
+    ensures { λ behind. ⌜ Placed (now (out .entry)) at (line (now (head .entry) ∷ numbers (now (ns .entry)))) (now (out .exit)) behind ⌝ }
 {
-    let numbers_at = put_word(out, at, head);
+    let numbers_at = put_bytes(out, at, head);
     end_line(out, numbers_at, ns)
 }

@@ -14,12 +14,12 @@ use Rattle.sheet.proofs.put_message_line.Tie as tie
 
 -- what the types say
 small : (c : tie.Start) → (c .args .m .request .number .panel .0 < 2 ^ 8) × (c .args .m .request .number .event .0 < 2 ^ 8)
-    × (c .args .word < 2 ^ 8) × (c .args .undone < 2 ^ 32)
+    × (c .args .refusal < 2 ^ 8) × (c .args .undone < 2 ^ 32)
 small c = (search needs, search needs, search needs, search needs)
 
 short : (c : tie.After-kind-number) → let a = c .before .before .before .args in
     let n = a .m .request .number in
-    length (messageLine (a .place) (c .kind-number .result) (n .panel .0) (n .event .0) (a .word) (a .undone))
+    length (messageLine (a .place) (c .kind-number .result) (n .panel .0) (n .event .0) (a .refusal) (a .undone))
     ≤ mostMessageBytes
 short c =
     let s = c .before .before .before in
@@ -55,7 +55,7 @@ returns c =
     let a = k .before .before .before .args in
     let w = c .before .before .put-message .ensures in
     let kind = k .kind-number .ensures ∙ ap kindNumber (k .before .kind-of .ensures) in
-    let is = message-line (a .place) (a .m) (k .kind-number .result) (a .word) (a .undone) kind in
+    let is = message-line (a .place) (a .m) (k .kind-number .result) (a .refusal) (a .undone) kind in
     record { written = rw is w; few = omega (arith, w .place, short k) }
 
 pub put-message-line-spec : {M : Type 1} → statement M

@@ -5,9 +5,9 @@ use Rattle.text.proofs.PlacedLaws.{room-first, room-next, then}
 use Rattle.text.proofs.put_line.Statement.{statement}
 use Rattle.text.proofs.put_line.Tie as tie
 
-put-word-requires : tie.Need-put-word-requires
+put-bytes-requires : tie.Need-put-bytes-requires
 unfolding line
-put-word-requires c κs =
+put-bytes-requires c κs =
     let s = c .before .before .before .before in
     room-first _ (restOfLine (numbers (s .args .ns .now))) (s .pre)
 
@@ -15,7 +15,7 @@ end-line-requires : tie.Need-end-line-requires
 unfolding line
 end-line-requires c κs =
     let w = c .before .before .before in
-    room-next _ (w .put-word .ensures) (w .before .before .before .before .before .pre)
+    room-next _ (w .put-bytes .ensures) (w .before .before .before .before .before .pre)
 
 same-length : tie.Need-same-length
 same-length c = search needs
@@ -24,7 +24,7 @@ returns : tie.Need-returns
 unfolding line
 returns c =
     let w = c .before .before in
-    then (w .before .before .before .before .put-word .ensures) (w .end-line .ensures)
+    then (w .before .before .before .before .put-bytes .ensures) (w .end-line .ensures)
 
 pub put-line-spec : {M : Type 1} → statement M
-put-line-spec = tie.close (tie.spec put-word-requires end-line-requires same-length returns)
+put-line-spec = tie.close (tie.spec put-bytes-requires end-line-requires same-length returns)

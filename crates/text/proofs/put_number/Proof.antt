@@ -18,17 +18,17 @@ decimal-requires c κs = search needs
 array-share-prefix-digits : tie.Need-array-share-prefix-digits
 array-share-prefix-digits c = search needs
 
-slice-aggregate-put-word : tie.Need-slice-aggregate-put-word
-slice-aggregate-put-word c = search needs
+slice-aggregate-put-bytes : tie.Need-slice-aggregate-put-bytes
+slice-aggregate-put-bytes c = search needs
 
-put-word-requires : tie.Need-put-word-requires
-put-word-requires c κs = rw (digits-are (c .before .before)) (c .before .before .before .before .before .pre)
+put-bytes-requires : tie.Need-put-bytes-requires
+put-bytes-requires c κs = rw (digits-are (c .before .before)) (c .before .before .before .before .before .pre)
 
 same-length : tie.Need-same-length
 same-length c = search needs
 
 returns : tie.Need-returns
-returns c = rw (digits-are (c .before .before .before .before .before)) at (c .before .before .put-word .ensures)
+returns c = rw (digits-are (c .before .before .before .before .before)) at (c .before .before .put-bytes .ensures)
 
 pub put-number-spec : {M : Type 1} → statement M
 put-number-spec =
@@ -36,7 +36,7 @@ put-number-spec =
     (tie.spec
     decimal-requires
     array-share-prefix-digits
-    slice-aggregate-put-word
-    put-word-requires
+    slice-aggregate-put-bytes
+    put-bytes-requires
     same-length
     returns)

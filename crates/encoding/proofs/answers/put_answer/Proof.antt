@@ -18,12 +18,12 @@ cast-high c = search needs
 cast-highest : tie.Need-cast-highest
 cast-highest c = search needs
 
-slice-aggregate-put-word : tie.Need-slice-aggregate-put-word
-slice-aggregate-put-word c = search needs
+slice-aggregate-put-bytes : tie.Need-slice-aggregate-put-bytes
+slice-aggregate-put-bytes c = search needs
 
-put-word-requires : tie.Need-put-word-requires
+put-bytes-requires : tie.Need-put-bytes-requires
 unfolding answerBytes headBytes integerBytes
-put-word-requires c κs =
+put-bytes-requires c κs =
     let start = c .before .before .before .before in
     room-first (headBytes (start .args .a)) (messageBytes (start .args .a .request)) (start .pre)
 
@@ -32,7 +32,7 @@ unfolding answerBytes headBytes integerBytes
 put-message-requires c κs =
     let head = c .before .before .before in
     let start = head .before .before .before .before .before in
-    room-next {s = headBytes (start .args .a)} (messageBytes (start .args .a .request)) (head .put-word .ensures) (start .pre)
+    room-next {s = headBytes (start .args .a)} (messageBytes (start .args .a .request)) (head .put-bytes .ensures) (start .pre)
 
 same-length : tie.Need-same-length
 same-length c = search needs
@@ -43,7 +43,7 @@ returns c =
     let message = c .before .before in
     let head = message .before .before .before .before in
     let a = head .before .before .before .before .before .args .a in
-    then {s = headBytes a} {t = messageBytes (a .request)} (head .put-word .ensures) (message .put-message .ensures)
+    then {s = headBytes a} {t = messageBytes (a .request)} (head .put-bytes .ensures) (message .put-message .ensures)
 
 pub put-answer-spec : {M : Type 1} → statement M
 put-answer-spec =
@@ -53,8 +53,8 @@ put-answer-spec =
     cast-low
     cast-high
     cast-highest
-    slice-aggregate-put-word
-    put-word-requires
+    slice-aggregate-put-bytes
+    put-bytes-requires
     put-message-requires
     same-length
     returns)

@@ -18,17 +18,17 @@ slice-aggregate-write c = search needs
 write-requires : tie.Need-write-requires
 write-requires c κs = search needs
 
-slice-aggregate-put-word : tie.Need-slice-aggregate-put-word
-slice-aggregate-put-word c = search needs
+slice-aggregate-put-bytes : tie.Need-slice-aggregate-put-bytes
+slice-aggregate-put-bytes c = search needs
 
-put-word-requires : tie.Need-put-word-requires
-put-word-requires c κs = rw (message-is (c .before .before .before)) (c .before .before .before .before .before .before .before .pre)
+put-bytes-requires : tie.Need-put-bytes-requires
+put-bytes-requires c κs = rw (message-is (c .before .before .before)) (c .before .before .before .before .before .before .before .pre)
 
 same-length : tie.Need-same-length
 same-length c = search needs
 
 returns : tie.Need-returns
-returns c = rw (message-is (c .before .before .before .before .before .before)) at (c .before .before .put-word .ensures)
+returns c = rw (message-is (c .before .before .before .before .before .before)) at (c .before .before .put-bytes .ensures)
 
 pub put-message-spec : {M : Type 1} → statement M
 put-message-spec =
@@ -37,7 +37,7 @@ put-message-spec =
     of-request-requires
     slice-aggregate-write
     write-requires
-    slice-aggregate-put-word
-    put-word-requires
+    slice-aggregate-put-bytes
+    put-bytes-requires
     same-length
     returns)

@@ -1,4 +1,4 @@
--- `put_word` meets its contract: what is still to be put from byte i on makes of out what the whole word makes of it.
+-- `put_bytes` meets its contract: what is still to be put from byte i on makes of out what the whole run makes of it.
 use Prim.Native.Nat.{_≤_, _-_, _+_}
 use native.Mathlib.Nat.{add-zero}
 use native.Mathlib.Omega.{arith}
@@ -7,14 +7,14 @@ use lib.ListN.{length, drop, length-set, drop-of-length-le}
 use lib.Seq.{sets}
 use borrow.Author.Needs.{needs}
 use Rattle.text.proofs.PlacedLaws.{byte-step}
-use Rattle.text.proofs.put_word.Statement.{statement}
-use Rattle.text.proofs.put_word.Tie as tie
+use Rattle.text.proofs.put_bytes.Statement.{statement}
+use Rattle.text.proofs.put_bytes.Tie as tie
 
 abbrev Inv-loop : tie.InvT-loop
-Inv-loop out₀ at word i₀ out i = (i ≤ length word) × (length out ≡ length out₀) × (sets out (at + i) (drop i word) ≡ sets out₀ at word)
+Inv-loop out₀ at bytes i₀ out i = (i ≤ length bytes) × (length out ≡ length out₀) × (sets out (at + i) (drop i bytes) ≡ sets out₀ at bytes)
 
 abbrev μ-loop : tie.MeasureT-loop
-μ-loop out₀ at word i₀ out i = length word - i
+μ-loop out₀ at bytes i₀ out i = length bytes - i
 
 loop-holds : tie.Need-loop-holds Inv-loop μ-loop
 loop-holds c = (omega arith, refl, simp add-zero)
@@ -38,7 +38,7 @@ loop-again : tie.Need-loop-again Inv-loop μ-loop
 loop-again c =
     let a = c .before .before .before .args in
     let l = c .before .before .loop in
-    (omega arith, simp length-set (l .inv .1), byte-step (l .out) (a .word .now) (a .at) (l .i) (omega arith) ∙ l .inv .2)
+    (omega arith, simp length-set (l .inv .1), byte-step (l .out) (a .bytes .now) (a .at) (l .i) (omega arith) ∙ l .inv .2)
 
 add-result : tie.Need-add-result Inv-loop μ-loop
 add-result c = search needs
@@ -50,11 +50,11 @@ returns : tie.Need-returns Inv-loop μ-loop
 returns c =
     let a = c .before .before .args in
     let l = c .before .loop in
-    let e : length (a .word .now) ≤ l .i = omega arith in
-    record { bytes = rw (drop-of-length-le (a .word .now) e) at (l .inv .2); place = omega arith }
+    let e : length (a .bytes .now) ≤ l .i = omega arith in
+    record { bytes = rw (drop-of-length-le (a .bytes .now) e) at (l .inv .2); place = omega arith }
 
-pub put-word-spec : {M : Type 1} → statement M
-put-word-spec =
+pub put-bytes-spec : {M : Type 1} → statement M
+put-bytes-spec =
     tie.close
     (tie.spec
     Inv-loop
