@@ -191,7 +191,7 @@ impl List {
     }
 }
 
-/// The answers as the program `callcases` prints them: a line for each with
+/// The answers as the program `cases` prints them: a line for each with
 /// refusal, mark, panel, event and response, and behind them the bytes of the
 /// request that an accepted make spreads.
 pub fn printed(bytes: &[u8]) -> Vec<u8> {

@@ -71,53 +71,64 @@ fn sorted_messages(input: &[u8]) -> Vec<Vec<u8>> {
 }
 
 #[test]
-fn stored_program_outputs_are_printed_again() {
-    for name in ["printout", "overlong", "fullshift"] {
-        let folder = format!("../crates/{name}");
-        let input = stored_in(&folder, "stdin");
-        let output = stored_in(&folder, "stdout");
-        assert!(printout(&input) == output, "{name}");
-        assert!(naive::printout(&input).as_bytes() == output, "{name}");
-    }
+fn the_stored_program_output_is_printed_again() {
+    let input = stored_in("../crates/printout", "stdin");
+    let output = stored_in("../crates/printout", "stdout");
+    assert!(printout(&input) == output);
+    assert!(naive::printout(&input).as_bytes() == output);
 }
 
+/// The sorts of stored cases.
+pub const PRINTOUT: u8 = b'p';
+pub const CALLS: u8 = b'c';
+
+/// Both must print the stored output.
 #[test]
 fn stored_cases_are_printed_again() {
-    cases_are_printed_again("../crates/cases", printout, naive::printout);
-}
-
-#[test]
-fn stored_lists_of_calls_are_answered_again() {
-    cases_are_printed_again("../crates/callcases", calls::printed, naive::answers);
-}
-
-/// Both must print the stored output of a folder's cases.
-fn cases_are_printed_again(folder: &str, output: fn(&[u8]) -> Vec<u8>, naive: fn(&[u8]) -> String) {
     let mut printed = Vec::new();
-    for (name, input) in stored_cases(folder) {
-        let text = output(&input);
-        assert!(naive(&input).as_bytes() == text, "{name}");
+    for StoredCase { name, sort, bytes } in all_stored_cases() {
+        let (text, naive) = match sort {
+            PRINTOUT => (printout(&bytes), naive::printout(&bytes)),
+            CALLS => (calls::printed(&bytes), naive::answers(&bytes)),
+            _ => panic!("{name} is of the sort {sort}"),
+        };
+        assert!(naive.as_bytes() == text, "{name}");
         printed.extend_from_slice(name.as_bytes());
         printed.push(b'\n');
         printed.extend_from_slice(&text);
     }
-    assert!(printed == stored_in(folder, "stdout"));
+    assert!(printed == stored_in(CASES, "stdout"));
 }
 
-/// The input of the stored case with this name.
-pub fn stored_case(folder: &str, name: &str) -> Vec<u8> {
-    let found = stored_cases(folder).into_iter().find(|case| case.0 == name);
+/// The bytes of the stored case of a sort with this name.
+pub fn stored_case(sort: u8, name: &str) -> Vec<u8> {
+    let found = stored_cases(sort).into_iter().find(|case| case.0 == name);
     found.unwrap_or_else(|| panic!("no case is named {name}")).1
 }
 
-/// Name and input of each case stored in a folder.
-pub fn stored_cases(folder: &str) -> Vec<(String, Vec<u8>)> {
-    let bytes = stored_in(folder, "stdin");
+/// Name and bytes of each stored case of a sort.
+pub fn stored_cases(sort: u8) -> Vec<(String, Vec<u8>)> {
+    let cases = all_stored_cases().into_iter();
+    cases.filter(|case| case.sort == sort).map(|case| (case.name, case.bytes)).collect()
+}
+
+struct StoredCase {
+    name: String,
+    sort: u8,
+    bytes: Vec<u8>,
+}
+
+const CASES: &str = "../crates/cases";
+
+fn all_stored_cases() -> Vec<StoredCase> {
+    let bytes = stored_in(CASES, "stdin");
     let mut rest = bytes.as_slice();
     let mut cases = Vec::new();
     while !rest.is_empty() {
         let name = String::from_utf8(part(&mut rest).to_vec()).unwrap();
-        cases.push((name, part(&mut rest).to_vec()));
+        let sort = part(&mut rest);
+        assert_eq!(sort.len(), 1, "{name}");
+        cases.push(StoredCase { name, sort: sort[0], bytes: part(&mut rest).to_vec() });
     }
     cases
 }

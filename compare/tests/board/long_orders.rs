@@ -7,7 +7,7 @@ use mizzencord_compare::printout::printout;
 use mizzencord_compare::request::*;
 
 use crate::build::*;
-use crate::examples::stored_case;
+use crate::examples::{stored_case, CALLS, PRINTOUT};
 
 /// The requests that panel 7 of 8 can hear.
 const MOST_HEARD: usize = 448;
@@ -96,7 +96,7 @@ fn message_lines(messages: &[(u16, (u8, u8))], undone: &[usize]) -> Vec<String> 
 }
 
 fn printed(name: &str) -> Vec<String> {
-    let text = String::from_utf8(printout(&stored_case("../crates/cases", name))).unwrap();
+    let text = String::from_utf8(printout(&stored_case(PRINTOUT, name))).unwrap();
     text.lines().map(String::from).collect()
 }
 
@@ -185,7 +185,7 @@ fn the_stored_long_list_of_calls() {
         lines.push(spread(&format!("18 0 1 0 7 {event} 255 255 255 255"), "1 4 0 0 0 0 0 0"));
         lines.push(answer(1, (7, event), 5_003));
     }
-    let bytes = stored_case("../crates/callcases", name);
+    let bytes = stored_case(CALLS, name);
     let text = String::from_utf8(calls::printed(&bytes)).unwrap();
     assert_eq!(text.lines().collect::<Vec<&str>>(), lines);
 }

@@ -4,11 +4,8 @@
 use mizzencord_compare::calls;
 use mizzencord_compare::printout::printout;
 
-use crate::examples::stored_cases;
+use crate::examples::{stored_cases, CALLS, PRINTOUT};
 use crate::stored_lines::{answer, answered, lines, nothing, printed, read_and_reply, registers};
-
-const CASES: &str = "../crates/cases";
-const LISTS: &str = "../crates/callcases";
 
 /// The numbers in a text, in turn.
 fn numbers(text: &str) -> Vec<u32> {
@@ -57,7 +54,7 @@ impl Told {
 #[test]
 fn single_claims_do_what_their_names_say() {
     let mut claims = 0;
-    for (name, input) in stored_cases(CASES) {
+    for (name, input) in stored_cases(PRINTOUT) {
         let Some(told) = Told::of(&name) else { continue };
         let printed = lines(printout(&input));
         let count = told.held.len() + 1;
@@ -76,8 +73,8 @@ type Output = fn(&[u8]) -> Vec<u8>;
 #[test]
 fn plain_claims_and_those_of_one_register_by_code_6_print_the_same() {
     let mut pairs = 0;
-    for (folder, output) in [(CASES, printout as Output), (LISTS, calls::printed)] {
-        let cases = stored_cases(folder);
+    for (sort, output) in [(PRINTOUT, printout as Output), (CALLS, calls::printed)] {
+        let cases = stored_cases(sort);
         for (name, plain) in cases.iter().filter(|(name, _)| name.starts_with("a plain claim of ")) {
             let other = name.replacen("a plain claim of ", "a claim by code 6 of ", 1);
             let Some((_, by_code_6)) = cases.iter().find(|(name, _)| *name == other) else { continue };
@@ -92,7 +89,7 @@ fn plain_claims_and_those_of_one_register_by_code_6_print_the_same() {
 #[test]
 fn bad_operations_are_refused_where_they_are_heard_and_made() {
     let mut operations = 0;
-    for (name, input) in stored_cases(CASES) {
+    for (name, input) in stored_cases(PRINTOUT) {
         if !name.starts_with("refused among claims: ") {
             continue;
         }

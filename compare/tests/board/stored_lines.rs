@@ -3,18 +3,18 @@
 use mizzencord_compare::calls;
 use mizzencord_compare::printout::printout;
 
-use crate::examples::stored_case;
+use crate::examples::{stored_case, CALLS, PRINTOUT};
 
 pub fn lines(text: Vec<u8>) -> Vec<String> {
     String::from_utf8(text).unwrap().lines().map(String::from).collect()
 }
 
 pub fn printed(name: &str) -> Vec<String> {
-    lines(printout(&stored_case("../crates/cases", name)))
+    lines(printout(&stored_case(PRINTOUT, name)))
 }
 
 pub fn answered(name: &str) -> Vec<String> {
-    lines(calls::printed(&stored_case("../crates/callcases", name)))
+    lines(calls::printed(&stored_case(CALLS, name)))
 }
 
 pub fn nothing() -> String {

@@ -2,7 +2,7 @@
 
 use mizzencord_compare::printout::printout;
 
-use crate::examples::stored_cases;
+use crate::examples::{stored_cases, PRINTOUT};
 use crate::moves::MOVES;
 use crate::stored_lines::{answer, answered, lines, nothing, printed, read_and_reply, registers};
 
@@ -27,7 +27,7 @@ fn lines_of_a_single_move(moved: u32, left: u32, reached: u32) -> Vec<String> {
 
 #[test]
 fn the_stored_single_moves() {
-    let mut stored = stored_cases("../crates/cases");
+    let mut stored = stored_cases(PRINTOUT);
     stored
         .retain(|(name, _)| name.starts_with("a move of ") && name.contains(" into ") && name.contains(": "));
     assert_eq!(stored.len(), 16);

@@ -8,14 +8,14 @@ use mathlib.Core.Bool.{Bool, true, false, _||_, or-false}
 use mathlib.Core.List.{List}
 use lib.ListN.{length, getD, set}
 use lib.Dec.{ltb, eqb}
-use borrow.Author.Tests.{eqb-true, eqb-false, eq-eqb, not-true, le-ltb}
+use borrow.Author.Tests.{eqb-true, eqb-false, not-true, le-ltb}
 use Rattle.lists.proofs.BoolLaws.{both-true, neither-true}
 use Rattle.request.specs.declared.Operation.{Operation}
 use Rattle.request.specs.Operations.{codeClaimAll, lastRegister, mostClaimed, span, badOperation}
 use Rattle.effects.specs.Effect.{offBoard, lowestHeld, allSet, exec, response, Executed, ClaimOnBoard}
 use Rattle.effects.specs.Claims.{claimAll, plainClaim, Among, SameAsPlainClaim, TakesAllOrNone, goodClaim, NeverOneEach}
 use Rattle.effects.proofs.SpanLaws.{held-one, all-zero, none-held, lowest-held, set-inside}
-use Rattle.effects.proofs.FrameLaws.{named-outside}
+use Rattle.effects.proofs.TouchedLaws.{untouched-outside}
 use Rattle.effects.proofs.RegisterLaws.{on-board, executed-off, executed-claim, executed-no-claim, executed-claim-all}
 use Rattle.effects.proofs.RegisterLaws.{executed-no-claim-all, exec-length, exec-frame}
 
@@ -123,7 +123,7 @@ all-or-none o b claim long = record {
   none = λ k within held. sym (finds-held o b claim (not-free o b claim k within held) .effect);
   none-responds = λ k within held before.
       sym (finds-held o b claim (not-free o b claim k within held) .response) ∙ held-value o b claim k within held before;
-  outside = λ k apart. exec-frame o b k (named-outside o (eq-eqb _ _ (claim .code)) k apart);
+  outside = λ k apart. exec-frame o b k (untouched-outside o claim k apart);
 }
 
 -- ---- two claims

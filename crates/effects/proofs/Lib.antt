@@ -2,6 +2,8 @@
 pub mod AmountLaws
 pub mod SpanLaws
 pub mod FrameLaws
+pub mod TouchedCases
+pub mod TouchedLaws
 pub mod RegisterLaws
 pub mod ReplayLaws
 pub mod SumLaws

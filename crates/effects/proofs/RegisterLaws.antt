@@ -3,21 +3,20 @@
 -- How an operation keeps what it keeps is in `FrameLaws`, laws of many operations in turn are in `ReplayLaws`, of moves alone in
 -- `AmountLaws` and `SumLaws`, of claims of registers together in `SpanLaws` and `ClaimLaws`.
 use Prim.Native.Nat.{ℕ, _+_, _≤_, _<_}
-use native.Mathlib.Decide.{ℕ-discrete}
 use native.Mathlib.Omega.{arith}
-use mathlib.Core.Path.{_≡_, refl, sym, ap, _∙_}
+use mathlib.Core.Path.{_≡_}
 use mathlib.Core.Logic.{_≢_}
-use mathlib.Core.Bool.{Bool, true, false, cond}
+use mathlib.Core.Bool.{true, false}
 use mathlib.Core.List.{List}
-use lib.ListN.{length, getD, set, length-set}
-use lib.Seq.{getD-set-same, getD-set-other, set-getD, ext-getD}
-use lib.Dec.{eqb}
-use borrow.Author.Tests.{ltb-false, eqb-true, eqb-false, ne-eqb}
+use lib.ListN.{length, getD, set}
+use lib.Seq.{set-getD}
+use borrow.Author.Tests.{ltb-false, ne-eqb}
 use Rattle.request.specs.declared.Operation.{Operation}
-use Rattle.request.specs.Operations.{codeRead, codeSet, codeAdd, codeClaim, codeMove, codeClaimAll, lastRegister, span}
+use Rattle.request.specs.Operations.{codeRead, codeSet, codeAdd, codeClaim, codeMove, codeClaimAll, lastRegister}
 use Rattle.lists.proofs.BoolLaws.{neither-true}
 use Rattle.effects.specs.Effect.{range, offBoard, added, claimed, amountMoved, moved, lowestHeld, allSet, allClaimed}
-use Rattle.effects.specs.Effect.{allClaimedResponse, exec, response, names, Executed}
+use Rattle.effects.specs.Effect.{allClaimedResponse, exec, response, Executed}
+use Rattle.effects.specs.Touched.{Untouched}
 use Rattle.effects.proofs.FrameLaws.{InRange, exec-keeps}
 
 -- ---- on the board
@@ -103,8 +102,8 @@ module _ (o : Operation) (b : List ℕ) where
   pub exec-length : length (exec o b) ≡ length b
   exec-length = exec-keeps o b .count
 
-  -- an operation changes no register that it does not name
-  pub exec-frame : (k : ℕ) → names o k ≡ false → getD (exec o b) k 0 ≡ getD b k 0
+  -- an operation changes no register that it does not touch
+  pub exec-frame : (k : ℕ) → Untouched o k → getD (exec o b) k 0 ≡ getD b k 0
   exec-frame = exec-keeps o b .others
 
   pub exec-in-range : o .amount < range → InRange b → InRange (exec o b)

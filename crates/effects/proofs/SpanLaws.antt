@@ -1,17 +1,21 @@
--- Laws of n registers from one on: the first of them that is held (`firstHeld`), and all of them set to one value.
+-- Laws of n registers from one on: their list (`registersFrom`), the first of them that is held (`firstHeld`), and all of them set to one
+-- value.
+use Prim.{tt}
 use Prim.Native.Nat.{ℕ, zero, suc, _+_, _-_, _≤_, _<_}
 use native.Mathlib.Decide.{ℕ-discrete}
 use native.Mathlib.Numerals.{add-one}
 use native.Mathlib.Omega.{arith}
-use mathlib.Core.Path.{_≡_, refl, sym, ap, subst, _∙_}
+use mathlib.Core.Path.{_≡_, refl, sym, ap, _∙_}
 use mathlib.Core.Logic.{_≢_}
 use mathlib.Core.Bool.{Bool, true, false, _&&_}
 use mathlib.Core.List.{List}
 use lib.ListN.{length, getD, set, replicate}
-use lib.Seq.{getD-set-same, getD-set-other, ext-getD, lt-length-set, sets, length-sets}
-use lib.Dec.{ltb, leb, eqb}
-use borrow.Author.Tests.{ltb-true, ltb-false, leb-true, leb-false, eqb-true, eqb-false, ne-eqb}
+use lib.Seq.{getD-set-same, getD-set-other, lt-length-set, sets}
+use lib.Dec.{ltb, eqb}
+use borrow.Author.Tests.{ltb-true, ltb-false, eqb-true, eqb-false, ne-eqb}
+use Rattle.lists.specs.Places.{All}
 use Rattle.effects.specs.Effect.{unlessZero, firstHeld}
+use Rattle.effects.specs.Touched.{registersFrom}
 
 -- a register from k on is k itself or one above it
 first-or-above : {P : Type 0} (k j : ℕ) → k ≤ j → (k ≡ j → P) → (k < j → P) → P
@@ -21,14 +25,20 @@ first-or-above {P} k j low first above = go (ltb k j) refl
     go true e = above (ltb-true k j e)
     go false e = first (omega (arith, ltb-false k j e))
 
--- a register is one of n from i on, or apart from them
-pub inside-or-apart : {P : Type 0} (n i k : ℕ) → (i ≤ k → k < i + n → P) → ((i ≤ k → k < i + n → ⊥) → P) → P
-inside-or-apart {P} n i k inside apart = go (leb i k) (ltb k (i + n)) refl refl
-  where
-    go : (s t : Bool) → leb i k ≡ s → ltb k (i + n) ≡ t → P
-    go true true e f = inside (leb-true i k e) (ltb-true k (i + n) f)
-    go true false e f = apart (λ low high. omega (arith, ltb-false k (i + n) f))
-    go false t e f = apart (λ low high. omega (arith, leb-false i k e))
+-- ---- their list
+
+module _ (P : ℕ → Type 0) where
+  pub all-from : (n i : ℕ) → ((k : ℕ) → i ≤ k → k < i + n → P k) → All P (registersFrom n i)
+  unfolding registersFrom
+  all-from zero i each = tt
+  all-from (suc n) i each =
+      (each i (omega arith) (omega arith), all-from n (suc i) (λ k low high. each k (omega arith) (omega arith)))
+
+  pub each-from : (n i : ℕ) → All P (registersFrom n i) → (k : ℕ) → i ≤ k → k < i + n → P k
+  unfolding registersFrom
+  each-from zero i all k low high = absurd (omega arith)
+  each-from (suc n) i all k low high =
+      first-or-above i k low (λ here. rw (← here) (all .0)) (λ above. each-from n (suc i) (all .1) k above (omega arith))
 
 -- ---- the first one held
 
@@ -97,46 +107,6 @@ set-inside (suc n) i v b k low high inside =
     set-outside n (suc i) v (set b i v) k (λ from to. omega arith)
     ∙ rw here (getD-set-same b k v 0 inside))
     (λ above. set-inside n (suc i) v (set b i v) k above (omega arith) (lt-length-set b i v inside))
-
--- registers that were all 0, set to v and then to 0, are as they were
-module _ (n i v : ℕ) (b : List ℕ) (free : firstHeld n i b ≡ 0) where
-  abbrev taken : List ℕ
-  taken = sets b i (replicate n v)
-
-  abbrev back : List ℕ
-  back = sets taken i (replicate n 0)
-
-  as-long : length back ≡ length taken
-  as-long = length-sets taken i (replicate n 0)
-
-  back-at : (k : ℕ) → k < length taken → getD back k 0 ≡ getD b k 0
-  back-at k inside =
-      inside-or-apart n i k
-      (λ low high. set-inside n i 0 taken k low high inside ∙ sym (all-zero n i b free k low high))
-      (λ apart. set-outside n i 0 taken k apart ∙ set-outside n i v b k apart)
-
-  pub set-back : back ≡ b
-  set-back = ext-getD 0 back b (as-long ∙ length-sets b i (replicate n v)) (λ k h. back-at k (subst (λ (l : ℕ). k < l) as-long h))
-
--- registers that were all 0, set to v, are as they were where the first of them is still 0
-module _ (n i v : ℕ) (b : List ℕ) (free : firstHeld n i b ≡ 0) (still : getD (sets b i (replicate n v)) i 0 ≡ 0) where
-  unseen-at : (k : ℕ) → k < length b → getD (sets b i (replicate n v)) k 0 ≡ getD b k 0
-  unseen-at k inside =
-      inside-or-apart n i k
-      (λ low high.
-      let first : getD (sets b i (replicate n v)) i 0 ≡ v = set-inside n i v b i (omega arith) (omega arith) (omega arith) in
-      set-inside n i v b k low high inside ∙ sym first ∙ still ∙ sym (all-zero n i b free k low high))
-      (λ apart. set-outside n i v b k apart)
-
-  pub set-unseen : sets b i (replicate n v) ≡ b
-  set-unseen =
-      let long = length-sets b i (replicate n v) in
-      ext-getD 0 _ b long (λ k h. unseen-at k (subst (λ (l : ℕ). k < l) long h))
-
--- where the first register is held and none of n is, n is 0
-pub none-named : (n i : ℕ) (b : List ℕ) → firstHeld n i b ≡ 0 → getD b i 0 ≢ 0 → n ≡ 0
-none-named zero i b free held = refl
-none-named (suc n) i b free held = absurd (held (all-zero (suc n) i b free i (omega arith) (omega arith)))
 
 -- ---- one register after the other, up to an end
 

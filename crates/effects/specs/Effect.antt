@@ -2,11 +2,11 @@
 -- and by its request (g), which adds the claim of registers r to q together.
 use Prim.Native.Nat.{ℕ, zero, suc, _+_, _-_, _%_, _^_, min}
 use mathlib.Core.Path.{_≡_}
-use mathlib.Core.Bool.{Bool, false, _&&_, _||_, cond}
+use mathlib.Core.Bool.{Bool, false, _||_, cond}
 use mathlib.Core.List.{List}
 use lib.ListN.{getD, set, replicate}
 use lib.Seq.{sets}
-use lib.Dec.{ltb, leb, eqb}
+use lib.Dec.{ltb, eqb}
 use Rattle.request.specs.declared.Operation.{Operation}
 use Rattle.request.specs.Operations.{codeRead, codeSet, codeAdd, codeClaim, codeMove, codeClaimAll, lastRegister, span}
 
@@ -81,10 +81,6 @@ response o b =
     (cond (eqb (o .code) codeMove) (amountMoved o b)
     (cond (eqb (o .code) codeClaimAll) (allClaimedResponse o b)
     0))))))
-
--- register k is one that o names: one of r to q under a claim of registers together, r or q under any other operation
-unfoldable pub names : Operation → ℕ → Bool
-names o k = cond (eqb (o .code) codeClaimAll) (leb (o .r) k && leb k (o .q)) (eqb k (o .r) || eqb k (o .q))
 
 -- o was executed on the registers b: they became b′, and it responded x
 pub record Executed (o : Operation) (b b′ : List ℕ) (x : ℕ) : Type 0 where

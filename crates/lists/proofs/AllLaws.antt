@@ -1,8 +1,10 @@
 -- Laws of what holds of every element: of one element, of parts, of a list put together, of what a test keeps.
 use Prim.{tt}
 use Prim.Native.Nat.{ℕ, suc, zero, _+_, _-_, _≤_, _<_}
+use native.Mathlib.Decide.{ℕ-discrete}
 use native.Mathlib.Omega.{arith}
-use mathlib.Core.Path.{_≡_}
+use mathlib.Core.Path.{_≡_, sym, subst}
+use mathlib.Core.Logic.{_≢_}
 use mathlib.Core.Bool.{Bool, true, false}
 use mathlib.Core.List.{List, [], _∷_, _++_}
 use lib.ListN.{length, take, drop, getD}
@@ -67,6 +69,15 @@ module _ {A : Type 0} (P : A → Type 0) where
   pub all-keep : (p : A → Bool) (l : List A) → All P l → All P (keep p l)
   all-keep p [] a = tt
   all-keep p (x ∷ xs) a = all-consIf (p x) x (keep p xs) (a .0) (all-keep p xs (a .1))
+
+-- what holds of every number of a list, and of k where it is none of them, holds of k
+pub all-or-other : (P : ℕ → Type 0) (l : List ℕ) (k : ℕ) → All P l → (All (λ i. k ≢ i) l → P k) → P k
+all-or-other P [] k a other = other tt
+all-or-other P (i ∷ is) k a other = go (λ apart. all-or-other P is k (a .1) (λ rest. other (apart, rest))) (ℕ-discrete k i)
+  where
+    go : (k ≢ i → P k) → Dec (k ≡ i) → P k
+    go later (yes e) = subst P (sym e) (a .0)
+    go later (no apart) = later apart
 
 -- where none passes the test, every element fails it
 pub none-all : {A : Type 0} (p : A → Bool) (l : List A) → count p l ≡ 0 → All (λ x. p x ≡ false) l

@@ -48,3 +48,8 @@ same-test false false f g = refl
 pub either : {A : Type 0} (P : A → Type 0) (t : Bool) {x y : A} → (t ≡ true → P x) → (t ≡ false → P y) → P (cond t x y)
 either P true f g = f refl
 either P false f g = g refl
+
+-- what holds of both sides of two choices by one test holds of the two choices
+pub either-both : {A B : Type 0} (P : A → B → Type 0) (t : Bool) {x y : A} {u v : B} → P x u → P y v → P (cond t x y) (cond t u v)
+either-both P true f g = f
+either-both P false f g = g

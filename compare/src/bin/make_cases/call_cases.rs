@@ -1,4 +1,4 @@
-//! The cases of the program `callcases`: lists of calls as docs/CALLS.md lays
+//! The lists of calls of the program `cases`, as docs/CALLS.md lays
 //! them out, most of them about own clocks that are put back, the last about
 //! moves and about claims of neighbouring registers.
 

@@ -1,5 +1,5 @@
-//! Writes the stored inputs and expected outputs of the programs `cases`,
-//! `overlong`, `fullshift` and `callcases` into the folder of the crates.
+//! Writes the stored input and the expected output of the program `cases`, the
+//! printouts first and then the lists of calls, into the folder of the crates.
 
 use std::path::Path;
 use std::{env, fs, io};
@@ -21,21 +21,25 @@ const MOST_NAMED: usize = 4_096;
 
 fn main() -> io::Result<()> {
     let folder = env::args().nth(1).unwrap_or_else(|| "../crates".into());
-    let folder = Path::new(&folder);
-    let Cases(cases) = cases();
-    store(folder, "cases", &framed(&cases), &printed(&cases, printout))?;
-    for (name, input) in [("overlong", overlong_input()), ("fullshift", full_shift())] {
-        store(folder, name, &input, &printout(&input))?;
-    }
-    let Cases(lists) = call_cases::cases();
-    store(folder, "callcases", &framed(&lists), &printed(&lists, calls::printed))
+    let sorts = [
+        Sort { byte: b'p', room: 2 * MOST_BYTES, output: printout, cases: cases() },
+        Sort { byte: b'c', room: MOST_BYTES, output: calls::printed, cases: call_cases::cases() },
+    ];
+    let folder = Path::new(&folder).join("cases");
+    fs::create_dir_all(&folder)?;
+    fs::write(folder.join("stdin"), sorts.iter().flat_map(Sort::framed).collect::<Vec<u8>>())?;
+    fs::write(folder.join("stdout"), sorts.iter().flat_map(Sort::printed).collect::<Vec<u8>>())
 }
 
-fn store(folder: &Path, name: &str, input: &[u8], output: &[u8]) -> io::Result<()> {
-    let folder = folder.join(name);
-    fs::create_dir_all(&folder)?;
-    fs::write(folder.join("stdin"), input)?;
-    fs::write(folder.join("stdout"), output)
+/// Cases of one sort.
+struct Sort {
+    /// The byte that stands for it.
+    byte: u8,
+    /// The most bytes of a case that the program has room for.
+    room: usize,
+    /// What is printed of a case's bytes.
+    output: fn(&[u8]) -> Vec<u8>,
+    cases: Cases,
 }
 
 /// An input of the printout program, or a list of calls, with a name that says
@@ -57,28 +61,30 @@ impl Cases {
     }
 }
 
-/// Name and input of each case, each behind its length in three bytes.
-fn framed(cases: &[Case]) -> Vec<u8> {
-    let mut bytes = Vec::new();
-    for case in cases {
-        assert!((1..=MOST_NAMED).contains(&case.name.len()) && case.input.len() <= MOST_BYTES);
-        for part in [case.name.as_bytes(), &case.input] {
-            bytes.extend_from_slice(&(part.len() as u32).to_le_bytes()[..3]);
-            bytes.extend_from_slice(part);
+impl Sort {
+    /// Name, sort and bytes of each case, each behind its length in three bytes.
+    fn framed(&self) -> Vec<u8> {
+        let mut bytes = Vec::new();
+        for Case { name, input } in &self.cases.0 {
+            assert!((1..=MOST_NAMED).contains(&name.len()) && input.len() <= self.room);
+            for part in [name.as_bytes(), &[self.byte], input] {
+                bytes.extend_from_slice(&(part.len() as u32).to_le_bytes()[..3]);
+                bytes.extend_from_slice(part);
+            }
         }
+        bytes
     }
-    bytes
-}
 
-/// Name and output of each case.
-fn printed(cases: &[Case], output: fn(&[u8]) -> Vec<u8>) -> Vec<u8> {
-    let mut bytes = Vec::new();
-    for case in cases {
-        bytes.extend_from_slice(case.name.as_bytes());
-        bytes.push(b'\n');
-        bytes.extend_from_slice(&output(&case.input));
+    /// Name and output of each case.
+    fn printed(&self) -> Vec<u8> {
+        let mut bytes = Vec::new();
+        for Case { name, input } in &self.cases.0 {
+            bytes.extend_from_slice(name.as_bytes());
+            bytes.push(b'\n');
+            bytes.extend_from_slice(&(self.output)(input));
+        }
+        bytes
     }
-    bytes
 }
 
 /// The cases of the printout program.
@@ -105,6 +111,10 @@ fn cases() -> Cases {
     settled_in_long_orders(&mut cases);
     moves::printouts(&mut cases);
     claims::printouts(&mut cases);
+    let cut = "the limit cuts a request, and what stands behind it would change the board";
+    cases.add(format!("more bytes than count: {cut}"), overlong_input());
+    let heard = "448 heard requests in falling clock order, with settlements";
+    cases.add(format!("a full shift: {heard}"), full_shift());
     cases
 }
 

@@ -1,8 +1,8 @@
 -- `print_bytes` meets its contract. The measure: how many bytes are left.
 use Prim.Native.Nat.{_≤_, _-_}
 use borrow.Author.Needs.{needs}
-use Rattle.callcases.proofs.print_bytes.Statement.{statement}
-use Rattle.callcases.proofs.print_bytes.Tie as tie
+use Rattle.cases.proofs.answered.print_bytes.Statement.{statement}
+use Rattle.cases.proofs.answered.print_bytes.Tie as tie
 
 abbrev Inv-loop : tie.InvT-loop
 Inv-loop bytes at count i₀ i = i ≤ count

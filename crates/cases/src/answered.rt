@@ -1,8 +1,5 @@
-// Runs many lists of calls, each behind its name, and prints the answers. Standard input has the cases one after the other: a case is two
-// parts as `framed` reads them, its name and its list of calls, encoded as `docs/CALLS.md` says.
-//
-// A case prints its name on a line and then a line for each answer: refusal, mark, panel, event and response, and behind them the bytes
-// of the request to be spread where there is one.
+// Runs a list of calls, encoded as `docs/CALLS.md` says, and prints a line for each answer: refusal, mark, panel, event and response, and
+// behind them the bytes of the request to be spread where there is one.
 use encoding::answers::ANSWER_SIZE;
 use encoding::calls::CALL_SIZE;
 use encoding::calls::CALLS_AT;
@@ -13,42 +10,14 @@ ghost use Prim.Native.Nat.{_+_, _*_, _≤_, _<_};
 ghost use lib.ListN.{length};
 ghost use Rattle.encoding.specs.Encoding.{answerSize, responseWidth};
 
-// A run ends after so many cases, where standard input does not end it sooner.
-const MOST_CASES: usize = 10000;
-
 // The most calls in 65,536 bytes, which is the longest list that is read.
 const MOST_CALLS: usize = (65536 - CALLS_AT) / CALL_SIZE;
 
 // Where an answer's response stands, behind refusal, mark, panel and event.
 const RESPONSE_AT: usize = 4;
 
-fn main() {
-    let mut left = MOST_CASES;
-    while left > 0 {
-        if !print_case() {
-            break;
-        }
-        left -= 1;
-    }
-}
-
-// Prints the next case, or returns false where there is none: it has no name.
-fn print_case() -> bool {
-    let mut name = io::buffer();
-    let named = framed::read_part(&mut name);
-    if named == 0 {
-        return false;
-    }
-    io::write_all(STDOUT_FILENO, &name[..named]);
-    end_line();
-    let mut calls = io::large_buffer();
-    let n = framed::read_part(&mut calls);
-    print_run(&calls[..n]);
-    true
-}
-
 // Runs a list of calls and prints its answers.
-fn print_run(calls: &[u8]) {
+pub fn print_run(calls: &[u8]) {
     let mut answers = page();
     let mut held = [0u64; 8];
     let mut known = [0u64; 8];
@@ -145,7 +114,8 @@ fn print_field(n: u64) {
     io::print_decimal(STDOUT_FILENO, n);
 }
 
-fn end_line() {
+// Ends a printed line.
+pub fn end_line() {
     let end = [b'\n'];
     io::write_all(STDOUT_FILENO, &end);
 }

@@ -4,8 +4,8 @@ use native.Mathlib.Omega.{arith}
 use mathlib.Core.Path.{_≡_}
 use borrow.Author.Needs.{needs}
 use Rattle.encoding.specs.Encoding.{answerSize}
-use Rattle.callcases.proofs.print_answers.Statement.{statement}
-use Rattle.callcases.proofs.print_answers.Tie as tie
+use Rattle.cases.proofs.answered.print_answers.Statement.{statement}
+use Rattle.cases.proofs.answered.print_answers.Tie as tie
 
 abbrev Inv-loop : tie.InvT-loop
 Inv-loop answers count at₀ i₀ at i = (i ≤ count) × (at ≡ answerSize * i)

@@ -2,8 +2,8 @@
 use native.Mathlib.Omega.{arith}
 use Rattle.driver.proofs.RunLaws.{ran-inside}
 use borrow.Author.Needs.{needs}
-use Rattle.callcases.proofs.print_run.Statement.{statement}
-use Rattle.callcases.proofs.print_run.Tie as tie
+use Rattle.cases.proofs.answered.print_run.Statement.{statement}
+use Rattle.cases.proofs.answered.print_run.Tie as tie
 
 page-requires : tie.Need-page-requires
 page-requires c κs = search needs

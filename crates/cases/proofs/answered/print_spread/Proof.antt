@@ -4,8 +4,8 @@ use mathlib.Core.Path.{ap}
 use Rattle.wire.specs.declared.Reading.{Reading}
 use Rattle.wire.proofs.RoundTrip.{place-inside}
 use borrow.Author.Needs.{needs}
-use Rattle.callcases.proofs.print_spread.Statement.{statement}
-use Rattle.callcases.proofs.print_spread.Tie as tie
+use Rattle.cases.proofs.answered.print_spread.Statement.{statement}
+use Rattle.cases.proofs.answered.print_spread.Tie as tie
 
 read-requires : tie.Need-read-requires
 read-requires c κs = search needs
