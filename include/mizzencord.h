@@ -88,10 +88,15 @@ typedef struct {
     uint32_t amount;
 } mizzencord_operation;
 
-/* What is asked for when a request is made; one that is not strong is weak. */
+/* What a request asks for; one that is not strong is weak. */
 typedef struct {
     mizzencord_operation operation;
     bool strong;
+} mizzencord_asked;
+
+/* What is handed over when a request is made: what it asks for, and the clock reading. */
+typedef struct {
+    mizzencord_asked asked;
     uint32_t clock;
 } mizzencord_invocation;
 
@@ -99,8 +104,7 @@ typedef struct {
 typedef struct {
     mizzencord_number number;
     uint32_t clock;
-    mizzencord_operation operation;
-    bool strong;
+    mizzencord_asked asked;
     uint64_t context[MIZZENCORD_MOST_PANELS];
 } mizzencord_request;
 
@@ -183,7 +187,7 @@ typedef struct {
 uint8_t mizzencord_fresh(mizzencord_panel *panel, uint8_t panels, uint8_t own);
 
 /* A request is made at this panel; the answer has the request to be spread. A clock below the last own request's is raised to it. */
-mizzencord_answer mizzencord_invoke(mizzencord_panel *panel, mizzencord_invocation asked);
+mizzencord_answer mizzencord_invoke(mizzencord_panel *panel, mizzencord_invocation invocation);
 
 /* A request of another panel is heard. */
 mizzencord_answer mizzencord_deliver(mizzencord_panel *panel, mizzencord_request request);

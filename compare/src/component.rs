@@ -8,7 +8,7 @@ use crate::wire::{self, Message, Parsed};
 
 pub trait Component {
     fn fresh(&mut self, panels: u8, own: u8) -> u8;
-    fn invoke(&mut self, asked: Invocation) -> Answer;
+    fn invoke(&mut self, invocation: Invocation) -> Answer;
     fn deliver(&mut self, request: Request) -> Answer;
     fn commit(&mut self, number: Number) -> Answer;
     fn receive(&mut self, bytes: &[u8], at: usize) -> Receipt;
@@ -60,8 +60,9 @@ impl Component for OwnPanel {
         refusal
     }
 
-    fn invoke(&mut self, asked: Invocation) -> Answer {
-        told(self.0.make(asked.operation.into(), asked.strong != 0, Clock(asked.clock)))
+    fn invoke(&mut self, invocation: Invocation) -> Answer {
+        let Invocation { asked, clock } = invocation;
+        told(self.0.make(asked.operation.into(), asked.strong != 0, Clock(clock)))
     }
 
     fn deliver(&mut self, request: Request) -> Answer {

@@ -26,9 +26,15 @@ pub struct Operation {
 
 #[repr(C)]
 #[derive(Clone, Copy, Debug, Default, PartialEq, Eq)]
-pub struct Invocation {
+pub struct Asked {
     pub operation: Operation,
     pub strong: u8,
+}
+
+#[repr(C)]
+#[derive(Clone, Copy, Debug, Default, PartialEq, Eq)]
+pub struct Invocation {
+    pub asked: Asked,
     pub clock: u32,
 }
 
@@ -37,8 +43,7 @@ pub struct Invocation {
 pub struct Request {
     pub number: Number,
     pub clock: u32,
-    pub operation: Operation,
-    pub strong: u8,
+    pub asked: Asked,
     pub context: [u64; request::PANELS],
 }
 
@@ -154,14 +159,20 @@ impl From<Operation> for request::Operation {
     }
 }
 
+impl Asked {
+    #[inline]
+    pub fn new(operation: request::Operation, strong: bool) -> Asked {
+        Asked { operation: operation.into(), strong: strong as u8 }
+    }
+}
+
 impl From<&request::Request> for Request {
     #[inline]
     fn from(request: &request::Request) -> Request {
         Request {
             number: request.number.into(),
             clock: request.clock.0,
-            operation: request.operation.into(),
-            strong: request.strong as u8,
+            asked: Asked::new(request.operation, request.strong),
             context: request.context.0,
         }
     }
@@ -173,8 +184,8 @@ impl From<&Request> for request::Request {
         request::Request {
             number: request.number.into(),
             clock: request::Clock(request.clock),
-            operation: request.operation.into(),
-            strong: request.strong != 0,
+            operation: request.asked.operation.into(),
+            strong: request.asked.strong != 0,
             context: request::NumberSet(request.context),
         }
     }

@@ -48,11 +48,9 @@ impl Outcome {
 
     fn of_call(panel: &mut impl Component, call: &Call) -> Outcome {
         match call {
-            Call::Make(operation, strong, clock) => Outcome::Answer(panel.invoke(Invocation {
-                operation: (*operation).into(),
-                strong: *strong as u8,
-                clock: clock.0,
-            })),
+            Call::Make(operation, strong, clock) => Outcome::Answer(
+                panel.invoke(Invocation { asked: Asked::new(*operation, *strong), clock: clock.0 }),
+            ),
             Call::Hear(request) => Outcome::Answer(panel.deliver(request.into())),
             Call::Settle(number) => Outcome::Answer(panel.commit((*number).into())),
             Call::Undo => Outcome::Answer(panel.undo()),

@@ -8,7 +8,7 @@ use crate::memory::{Start, Watched, WORDS};
 
 extern "C" {
     fn mizzencord_fresh(panel: *mut u64, panels: u8, own: u8) -> u8;
-    fn mizzencord_invoke(panel: *mut u64, asked: Invocation) -> Answer;
+    fn mizzencord_invoke(panel: *mut u64, invocation: Invocation) -> Answer;
     fn mizzencord_deliver(panel: *mut u64, request: Request) -> Answer;
     fn mizzencord_commit(panel: *mut u64, number: Number) -> Answer;
     fn mizzencord_receive(panel: *mut u64, bytes: *const u8, length: usize, at: usize) -> Receipt;
@@ -97,8 +97,8 @@ impl Component for Panel {
     }
 
     #[inline]
-    fn invoke(&mut self, asked: Invocation) -> Answer {
-        unsafe { mizzencord_invoke(self.at_mut(), asked) }
+    fn invoke(&mut self, invocation: Invocation) -> Answer {
+        unsafe { mizzencord_invoke(self.at_mut(), invocation) }
     }
 
     #[inline]

@@ -41,8 +41,8 @@ static void print_reply(int panel, mizzencord_number number, uint32_t response, 
 }
 
 static void make(int panel, mizzencord_operation operation, bool strong, uint32_t clock) {
-    mizzencord_invocation asked = {operation, strong, clock};
-    mizzencord_answer answer = mizzencord_invoke(&stations[panel].board, asked);
+    mizzencord_invocation invocation = {{operation, strong}, clock};
+    mizzencord_answer answer = mizzencord_invoke(&stations[panel].board, invocation);
     if (answer.refusal != MIZZENCORD_ACCEPTED) {
         printf("panel %d cannot make it: %s\n", panel, refusals[answer.refusal]);
         return;

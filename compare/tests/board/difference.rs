@@ -193,14 +193,15 @@ fn messages_are_read_and_written_as_structs() {
     let cut = Reading { refusal: CUT_SHORT, ..Reading::default() };
     assert_eq!((Handwritten.read(&settlement, 4), Handwritten.read(&settlement[..5], 0)), (cut, cut));
     // Of a settlement only the number is written, whatever else it has.
-    let full = header::Request { strong: 0, context: [7; 8], clock: 9, ..bare };
+    let full = header::Request { context: [7; 8], clock: 9, ..bare };
     let mut part = [9; 7];
     let written = Handwritten.write(&Message { settles: 1, request: full }, &mut part);
     assert_eq!((written, part), (Written { refusal: 0, bytes: 6 }, settlement));
     let refused = |refusal| Written { refusal, bytes: 0 };
     let weak = Message { settles: 0, request: full };
     assert_eq!(Handwritten.write(&weak, &mut part[..0]), refused(BAD_CONTEXT));
-    let strong = Message { settles: 0, request: header::Request { strong: 1, ..full } };
+    let asked = header::Asked { strong: 1, ..full.asked };
+    let strong = Message { settles: 0, request: header::Request { asked, ..full } };
     assert_eq!(Handwritten.write(&strong, &mut part), refused(NO_ROOM));
     assert_eq!(part, settlement);
 }

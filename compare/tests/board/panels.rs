@@ -41,8 +41,8 @@ impl<const FAULT: u8> Component for Faulty<FAULT> {
     fn fresh(&mut self, panels: u8, own: u8) -> u8 {
         self.panel.fresh(panels, own)
     }
-    fn invoke(&mut self, asked: Invocation) -> Answer {
-        self.panel.invoke(asked)
+    fn invoke(&mut self, invocation: Invocation) -> Answer {
+        self.panel.invoke(invocation)
     }
     fn deliver(&mut self, request: Request) -> Answer {
         self.panel.deliver(request)
@@ -177,9 +177,9 @@ fn a_panel_is_no_different_from_itself() {
 fn the_calls_answer_as_the_header_says() {
     let mut panel = OwnPanel::new();
     assert_eq!((panel.fresh(9, 0), panel.fresh(3, 3), panel.fresh(2, 1)), (1, 1, 0));
-    let asked = Invocation { operation: claim(0, 7).into(), strong: 1, clock: 5 };
-    let made = panel.invoke(asked).request;
-    assert_eq!((made.number, made.clock, made.strong), (Number { panel: 1, event: 1 }, 5, 1));
+    let asked = Asked::new(claim(0, 7), true);
+    let made = panel.invoke(Invocation { asked, clock: 5 }).request;
+    assert_eq!((made.number, made.clock, made.asked), (Number { panel: 1, event: 1 }, 5, asked));
     let due = panel.run_due();
     assert_eq!((due.undos, due.executions, due.count), (0, 1, 1));
     let reply = Reply { number: made.number, response: 7, mark: 2 };

@@ -5,8 +5,8 @@ use mathlib.Core.List.{List}
 use Rattle.counters.specs.declared.Counters.{Counters}
 use Rattle.counters.specs.Counted.{mostSteps, undosCounted, executionsCounted}
 use Rattle.numbers.specs.Numbers.{noNumber}
-use Rattle.request.specs.Refusal as refused
-use Rattle.creek.specs.Replies.{noMark}
+use Rattle.creek.specs.declared.Answer.{Answer}
+use Rattle.creek.specs.Replies.{noMark, reply}
 use Rattle.creek.specs.Sound.{mostRequests}
 use Rattle.replica.specs.declared.Core.{Core}
 use Rattle.steps.specs.declared.StepResult.{StepResult}
@@ -14,8 +14,6 @@ use Rattle.due.specs.declared.DueResult.{DueResult}
 use Rattle.steps.specs.Steps.{undoParts, executeParts, UndoKept, ExecuteKept}
 use Rattle.due.specs.Due.{ranParts, RunDue, DueKept}
 use Rattle.replica.proofs.BoundLaws.{undos-fit, executions-fit}
-use Rattle.wire.specs.declared.Message.{Message}
-use Rattle.wire.specs.Message.{noMessage}
 use Rattle.counting.specs.Counting.{UndoAsks, UndoCounted, ExecuteAsks, ExecuteCounted, DueCounted}
 use Rattle.encoding.proofs.DueLaws.{steps-few, done-all-due}
 
@@ -78,20 +76,11 @@ module _ {core : Core} {counters : Counters} {awaiting operations order stack re
       due-few = steps-few _ _ (a .invariant) ran-on
 
     pub due-counts : (undone counted : Counters) → undone ≡ undosCounted counters (r .due .undos)
-        → counted ≡ executionsCounted undone (r .due .executions) → (m : Message) → m ≡ noMessage
+        → counted ≡ executionsCounted undone (r .due .executions)
+        → (a : Answer) → a ≡ reply noNumber (r .due .undos + r .due .executions) noMark
         → DueCounted core counters awaiting operations order stack registers saved responses awaiting′ stack′ registers′ saved′ responses′
-        (record {
-          core = r .core;
-          counters = counted;
-          answer = record {
-            refusal = refused.accepted;
-            request = m .request;
-            number = noNumber;
-            response = r .due .undos + r .due .executions;
-            mark = noMark;
-          };
-        })
-    due-counts undone counted e f m none = record {
-      done = λ p inv. rw (f, e)
-          (done-all-due _ _ (done .kept (executeParts p counters core awaiting operations order stack registers saved responses) inv) m none);
+        (record { core = r .core; counters = counted; answer = a })
+    due-counts undone counted e f a answers = record {
+      done = λ p inv. rw (f, e, answers)
+          (done-all-due _ _ (done .kept (executeParts p counters core awaiting operations order stack registers saved responses) inv));
     }

@@ -2,12 +2,7 @@
 use counters::Counters;
 use creek::Answer;
 use creek::mark;
-use numbers::EventNo;
-use numbers::Number;
-use numbers::PanelNo;
 use replica::Core;
-use request::refusal;
-use wire::held;
 ghost use Rattle.counting.specs.Counting.{UndoAsks, UndoCounted, ExecuteAsks, ExecuteCounted, DueCounted};
 
 // What a call leads to: the core and the counters after it, and its answer.
@@ -110,18 +105,7 @@ pub fn all_due<'a>(
     let undone = counters::undos_counted(counters, ran.due.undos);
     let counted = counters::executions_counted(undone, ran.due.executions);
     let steps = ran.due.undos + ran.due.executions;
-    let nothing = held::nothing();
-    let request = nothing.request;
-    let answer = Answer {
-        refusal: refusal::ACCEPTED,
-        request,
-        number: Number {
-            panel: PanelNo(0),
-            event: EventNo(0),
-        },
-        response: steps,
-        mark: mark::NOBODY,
-    };
+    let answer = replica::reply(numbers::none(), steps, mark::NOBODY);
     let after = ran.core;
     EntryResult {
         core: after,

@@ -10,7 +10,7 @@ use borrow.Author.Tests.{leb-false, eq-eqb, lt-ltb, le-ltb, not-false}
 use Rattle.numbers.specs.declared.Number.{Number}
 use Rattle.request.specs.declared.Request.{Request}
 use Rattle.numbers.specs.Numbers.{badNumber, mostEvents}
-use Rattle.request.specs.Operations.{badOperation}
+use Rattle.request.specs.Asked.{badAsked}
 use Rattle.sets.specs.Sets.{emptySet, member, subset}
 use Rattle.request.specs.Order.{before}
 use Rattle.request.specs.Request.{sameRequest, badContext}
@@ -46,7 +46,7 @@ pub record New (a : Plan) (x : Request) : Type 0 where
 
 all-good : {panels : ℕ} {x : Request} → Good panels x → isBad panels x ≡ false
 unfolding isBad
-all-good g = neither (neither (g .number) (g .operation)) (g .context)
+all-good g = neither (neither (g .number) (g .asked)) (g .context)
 
 -- ---- the request that is made
 
@@ -87,16 +87,13 @@ module _ (a : Plan) (sound : SoundPlan a) (i : Invocation) where
           let far : not (ltb (x .number .panel .0) (a .panels)) ≡ true = both-true (before (requestWith a i emptySet) x) _ e .1 in
           rw far
 
-  good-context : (strong : Bool) → badContext (a .panels) (record {
-    number = nextNumber a;
-    clock = i .clock;
-    operation = i .operation;
-    strong = strong;
-    context = cond strong (without (a .known) (later a i)) emptySet;
-  }) ≡ false
+  good-context : (strong : Bool) → i .asked .strong ≡ strong
+      → badContext (a .panels) (requestWith a i (cond strong (without (a .known) (later a i)) emptySet)) ≡ false
   unfolding badContext
-  good-context false = neither (neither (ap not empty-set-empty) (member-empty (nextNumber a))) (namesFrom-empty (a .panels))
-  good-context true = neither (go (member (without (a .known) (later a i)) (nextNumber a)) refl)
+  good-context false s =
+      neither (neither (second-false (not (i .asked .strong)) (ap not empty-set-empty)) (member-empty (nextNumber a)))
+      (namesFrom-empty (a .panels))
+  good-context true s = neither (neither (first-false _ (ap not s)) (go (member (without (a .known) (later a i)) (nextNumber a)) refl))
       (without-namesFrom (a .panels) (a .known) (later a i) later-inside ∙ sound .held .known-panels)
     where
       go : (b : Bool) → member (without (a .known) (later a i)) (nextNumber a) ≡ b → b ≡ false
@@ -113,14 +110,14 @@ module _ (a : Plan) (sound : SoundPlan a) (i : Invocation) where
   pub made-new : invokeRefusal a i ≡ refused.accepted → New a (made a i)
   unfolding invokeRefusal made atLeast
   made-new e =
-      let operation = passed (badOperation (i .operation)) refused.badOperation _ tt e in
-      let room = leb-false mostEvents (lastEvent a) (passed _ refused.shiftFull refused.accepted tt (operation .1) .0) in
+      let asked = passed (badAsked (i .asked)) refused.badOperation _ tt e in
+      let room = leb-false mostEvents (lastEvent a) (passed _ refused.shiftFull refused.accepted tt (asked .1) .0) in
       record {
         good = all-good (record {
           number =
               number-good (a .panels) (nextNumber a) (record { panel = sound .held .own-below; least = omega arith; most = omega arith });
-          operation = operation .0;
-          context = good-context a sound (atLeast (lastClock a) i) (i .strong);
+          asked = asked .0;
+          context = good-context a sound (atLeast (lastClock a) i) (i .asked .strong) refl;
         });
         last = made-last;
         absent = next-absent a sound;
@@ -143,10 +140,10 @@ module _ (a : Plan) (x : Request) where
   heard-new e =
       let number = passed (badNumber (a .panels) (x .number)) refused.badNumber _ tt e in
       let other = passed (isOf (a .own) x) refused.ownEcho _ tt (number .1) in
-      let operation = passed (badOperation (x .operation)) refused.badOperation _ tt (other .1) in
-      let context = passed (badContext (a .panels) x) refused.badContext _ tt (operation .1) in
+      let asked = passed (badAsked (x .asked)) refused.badOperation _ tt (other .1) in
+      let context = passed (badContext (a .panels) x) refused.badContext _ tt (asked .1) in
       record {
-        good = all-good (record { number = number .0; operation = operation .0; context = context .0 });
+        good = all-good (record { number = number .0; asked = asked .0; context = context .0 });
         last = first-false _ (other .0);
         absent = heard-absent (held a (x .number)) refl (context .1);
       }
@@ -158,7 +155,7 @@ module _ (a : Plan) (n : Number) where
     pub request : Request
     pub number : n ≡ request .number
     pub found : find (hasNumber (request .number)) (a .tentative) ≡ some request
-    pub strong : request .strong ≡ true
+    pub strong : request .asked .strong ≡ true
     pub context-known : subset (request .context) (a .known) ≡ true
     pub leads : committingNumber a n ≡ committing a request
 
@@ -166,7 +163,7 @@ module _ (a : Plan) (n : Number) where
   unfolding committingFound
   commits-found none e h = absurd (omega arith)
   commits-found (some x) e h =
-      let strong = passed (not (x .strong)) refused.weak _ tt h in
+      let strong = passed (not (x .asked .strong)) refused.weak _ tt h in
       let new = passed (isCommitted a n) refused.settledAlready _ tt (strong .1) in
       let known = passed (waits a x) refused.waits refused.accepted tt (new .1) in
       let f = sym (find-skip (hasNumber n) (a .committed) (a .tentative) (none-passes-count (hasNumber n) (a .committed) (new .0))) ∙ e in

@@ -49,7 +49,7 @@ few-undos r i =
     (omega (
       arith,
       i .commits-strong,
-      count-most (λ x. x .strong) (r .book .plan .committed),
+      count-most (λ x. x .asked .strong) (r .book .plan .committed),
       length-append (r .book .plan .committed) (r .book .plan .tentative),
     ))
     (i .few)

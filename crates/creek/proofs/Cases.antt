@@ -3,6 +3,7 @@ use mathlib.Core.Path.{_≡_, refl}
 use mathlib.Core.List.{map}
 use Rattle.numbers.specs.Numbers.{sameNumber, badNumber}
 use Rattle.request.specs.Operations.{sameOperation, badOperation}
+use Rattle.request.specs.Asked.{sameAsked, badAsked}
 use Rattle.sets.specs.Sets.{sameWords, sameContext, allZero, isEmpty, namesFrom, bit, member, join, leave}
 use Rattle.sets.specs.Sets.{lackedWords, difference, subset}
 use Rattle.request.specs.Order.{before}
@@ -26,40 +27,41 @@ use Rattle.creek.specs.Faults.{strongHeard, twiceChanged, overtaken, fal
 use Rattle.creek.specs.Readings.{madeAndHeard, readings, sumAfter, moveReadings}
 
 pub edge-cases : map (λ (c : Case). c .computed) cases ≡ map (λ (c : Case). c .said) cases
-unfolding cases standing worked afterWorked nineNineEight onRegisters onBoard answers spreads eventsAndClocks numbers driven freshRefusal
-    sameNumber badNumber sameOperation badOperation sameWords sameContext allZero isEmpty namesFrom bit member join leave
-    lackedWords difference subset before sameRequest badContext offBoard added claimed amountMoved moved firstHeld lowestHeld allSet
-    allClaimed allClaimedResponse exec response replayOn replay lastEvent lastClock entered atLeast made committing committingFound invokeRefusal deliverRefusal commitRefusal registers
-    adjusted undone undoRefusal executedNext executeRefusal refusal accepted acceptedAnswer settlementReply stableReplyDue
-    namedByRefusal answerOf acceptedAwaiting badShop fresh accept step run afterDueSteps registerShown
+unfolding cases standing worked afterWorked nineNineEight onRegisters onBoard answers spreads eventsAndClocks numbers driven
+    freshRefusal sameNumber badNumber sameOperation badOperation sameAsked badAsked sameWords sameContext allZero isEmpty namesFrom bit
+    member join leave lackedWords difference subset before sameRequest badContext offBoard added claimed amountMoved moved firstHeld
+    lowestHeld allSet allClaimed allClaimedResponse exec response replayOn replay lastEvent lastClock entered atLeast made committing
+    committingFound invokeRefusal deliverRefusal commitRefusal registers adjusted undone undoRefusal executedNext executeRefusal refusal
+    accepted acceptedAnswer settlementReply stableReplyDue namedByRefusal answerOf acceptedAwaiting badShop fresh accept step run
+    afterDueSteps registerShown
 edge-cases = refl
 
 -- each reading chosen is what is computed
 pub readings-told : map (λ (c : Case). c .computed) readings ≡ map (λ (c : Case). c .said) readings
-unfolding readings madeAndHeard answers spreads eventsAndClocks sameNumber badNumber badOperation allZero isEmpty namesFrom bit member
-    join leave before badContext lastEvent lastClock entered without atLeast made invokeRefusal deliverRefusal adjusted refusal
+unfolding readings madeAndHeard answers spreads eventsAndClocks sameNumber badNumber badOperation badAsked allZero isEmpty namesFrom bit
+    member join leave before badContext lastEvent lastClock entered without atLeast made invokeRefusal deliverRefusal adjusted refusal
     accepted acceptedAnswer namedByRefusal answerOf acceptedAwaiting badShop fresh accept step run
 readings-told = refl
 
 pub move-readings-told : map (λ (c : Case). c .computed) moveReadings ≡ map (λ (c : Case). c .said) moveReadings
-unfolding moveReadings sumAfter onRegisters answers badOperation offBoard amountMoved moved exec response replayOn lastEvent entered
-    invokeRefusal adjusted executeRefusal refusal accepted executionReply acceptedAnswer answerOf badShop fresh accept step
+unfolding moveReadings sumAfter onRegisters answers badOperation badAsked offBoard amountMoved moved exec response replayOn lastEvent
+    entered invokeRefusal adjusted executeRefusal refusal accepted executionReply acceptedAnswer answerOf badShop fresh accept step
 move-readings-told = refl
 
 -- each fault would show
 pub faults-shown : map (λ (c : Case). c .computed) faults ≡ map (λ (c : Case). c .said) faults
-unfolding faults standing strongHeard twiceChanged overtaken numbers driven sameNumber badNumber sameOperation badOperation sameWords
-    sameContext allZero isEmpty namesFrom bit member join leave lackedWords difference subset before sameRequest badContext
-    offBoard added claimed amountMoved moved exec response replayOn replay lastEvent lastClock entered without atLeast made committing
-    committingFound invokeRefusal deliverRefusal commitRefusal registers adjusted undone undoRefusal executedNext executeRefusal
-    refusal accepted responseOn responseIn executionMark executionReply undoReply acceptedAnswer settlementReply stableReplyDue
-    namedByRefusal answerOf acceptedAwaiting badShop fresh accept step run afterDueSteps registerShown
+unfolding faults standing strongHeard twiceChanged overtaken numbers driven sameNumber badNumber sameOperation badOperation sameAsked
+    badAsked sameWords sameContext allZero isEmpty namesFrom bit member join leave lackedWords difference subset before sameRequest
+    badContext offBoard added claimed amountMoved moved exec response replayOn replay lastEvent lastClock entered without atLeast made
+    committing committingFound invokeRefusal deliverRefusal commitRefusal registers adjusted undone undoRefusal executedNext
+    executeRefusal refusal accepted responseOn responseIn executionMark executionReply undoReply acceptedAnswer settlementReply
+    stableReplyDue namedByRefusal answerOf acceptedAwaiting badShop fresh accept step run afterDueSteps registerShown
 faults-shown = refl
 
 -- demand 3's bound is reached, so no smaller one holds
 pub bound-reached : map (λ (c : Case). c .computed) reaching ≡ map (λ (c : Case). c .said) reaching
-unfolding reaching falling overtaking mostUndos driven sameNumber badNumber sameOperation badOperation sameWords sameContext
-    allZero isEmpty namesFrom bit member join lackedWords difference subset before sameRequest badContext entered committing
-    committingFound deliverRefusal commitRefusal adjusted undone undoRefusal executedNext executeRefusal refusal accepted badShop
-    fresh accept step afterDueSteps
+unfolding reaching falling overtaking mostUndos driven sameNumber badNumber sameOperation badOperation sameAsked badAsked sameWords
+    sameContext allZero isEmpty namesFrom bit member join lackedWords difference subset before sameRequest badContext entered committing
+    committingFound deliverRefusal commitRefusal adjusted undone undoRefusal executedNext executeRefusal refusal accepted badShop fresh
+    accept step afterDueSteps
 bound-reached = refl

@@ -12,7 +12,8 @@ use borrow.Author.Tests.{ltb-false, eqb-true, lt-leb}
 use Rattle.numbers.specs.declared.Number.{Number}
 use Rattle.request.specs.declared.Request.{Request}
 use Rattle.numbers.specs.Numbers.{clockReading, badNumber, mostEvents}
-use Rattle.request.specs.Operations.{lastRegister, badOperation}
+use Rattle.request.specs.Operations.{lastRegister}
+use Rattle.request.specs.Asked.{badAsked}
 use Rattle.request.specs.Order.{before}
 use Rattle.request.specs.Request.{sameRequest, badContext}
 use Rattle.request.specs.Refusal as refused
@@ -197,18 +198,18 @@ held-not (some y) x = met-not (sameRequest y x) (λ e. omega arith) (λ e. omega
 lookup-not : (a : Plan) (n : Number) (f : Option Request) → NotClockBack (foundRefusal a n f)
 lookup-not a n none = λ e. omega arith
 lookup-not a n (some x) =
-    met-not (not (x .strong)) (λ e. omega arith)
+    met-not (not (x .asked .strong)) (λ e. omega arith)
     (met-not (isCommitted a n) (λ e. omega arith) (met-not (waits a x) (λ e. omega arith) (λ e. omega arith)))
 
 calls-not : (b : Book) (c : Call) → NotClockBack (refusal b c)
 unfolding refusal invokeRefusal deliverRefusal commitRefusal undoRefusal executeRefusal
 calls-not b (invoke i) =
-    met-not (badOperation (i .operation)) (λ e. omega arith)
+    met-not (badAsked (i .asked)) (λ e. omega arith)
     (met-not (leb mostEvents (lastEvent (b .plan))) (λ e. omega arith) (λ e. omega arith))
 calls-not b (deliver x) =
     met-not (badNumber (b .plan .panels) (x .number)) (λ e. omega arith)
     (met-not (isOf (b .plan .own) x) (λ e. omega arith)
-    (met-not (badOperation (x .operation)) (λ e. omega arith)
+    (met-not (badAsked (x .asked)) (λ e. omega arith)
     (met-not (badContext (b .plan .panels) x) (λ e. omega arith) (held-not (held (b .plan) (x .number)) x))))
 calls-not b (commit n) =
     met-not (badNumber (b .plan .panels) n) (λ e. omega arith) (lookup-not (b .plan) n (held (b .plan) n))

@@ -50,7 +50,7 @@ module _ (a : Plan) (x : Request) (found : find (hasNumber (x .number)) (a .tent
       let few : count (isBad (a .panels)) (a .tentative) ≡ 0 =
       omega (arith, sound .held .good, count-append (isBad (a .panels)) (a .committed) (a .tentative)) in
       let good = found-not (hasNumber (x .number)) (isBad (a .panels)) x (a .tentative) found few in
-      let weak = not (x .strong) && not (isEmpty (x .context)) in
+      let weak = not (x .asked .strong) && not (isEmpty (x .context)) in
       let plain = neither-true (weak || named x x) (namesFrom (a .panels) (x .context)) (good-request (a .panels) x good .context) .0 in
       neither-true weak (named x x) plain .1
 
@@ -112,7 +112,7 @@ module _ (a : Plan) (x : Request) (found : find (hasNumber (x .number)) (a .tent
   stay-as-before y e =
       let parts = both-true (stays x y) _ e in
       let other = stays-other x y (parts .0) in
-      ap (Bool·beq (y .strong)) (sym (other-known (a .known) (x .number) (sound .held .known-words) commits-good y other)) ∙ parts .1
+      ap (Bool·beq (y .asked .strong)) (sym (other-known (a .known) (x .number) (sound .held .known-words) commits-good y other)) ∙ parts .1
 
   pub committing-sound : subset (x .context) (a .known) ≡ true → SoundPlan (committing a x)
   unfolding committing
@@ -141,22 +141,22 @@ module _ (a : Plan) (x : Request) (found : find (hasNumber (x .number)) (a .tent
   }
 
   -- the requests that a context names are weak, so a settlement commits one strong request, its own
-  pub committing-strong : subset (x .context) (a .known) ≡ true → x .strong ≡ true
-      → count (λ y. y .strong) ((committing a x) .committed) ≡ suc (count (λ y. y .strong) (a .committed))
+  pub committing-strong : subset (x .context) (a .known) ≡ true → x .asked .strong ≡ true
+      → count (λ y. y .asked .strong) ((committing a x) .committed) ≡ suc (count (λ y. y .asked .strong) (a .committed))
   unfolding committing
   committing-strong whole strong =
       omega (
         arith,
-        count-append (λ y. y .strong) (a .committed) (keep (named x) (a .tentative) ++ x ∷ []),
-        count-append (λ y. y .strong) (keep (named x) (a .tentative)) (x ∷ []),
-        count-keep (named x) (λ y. y .strong) (a .tentative),
+        count-append (λ y. y .asked .strong) (a .committed) (keep (named x) (a .tentative) ++ x ∷ []),
+        count-append (λ y. y .asked .strong) (keep (named x) (a .tentative)) (x ∷ []),
+        count-keep (named x) (λ y. y .asked .strong) (a .tentative),
         one-true strong,
         sound .tentative-known,
-        count-weaker (λ y. named x y && y .strong) (knownAgainstStrength (a .known)) against (a .tentative),
+        count-weaker (λ y. named x y && y .asked .strong) (knownAgainstStrength (a .known)) against (a .tentative),
       )
     where
-      against : (y : Request) → named x y && y .strong ≡ true → knownAgainstStrength (a .known) y ≡ true
+      against : (y : Request) → named x y && y .asked .strong ≡ true → knownAgainstStrength (a .known) y ≡ true
       against y e =
-          let parts = both-true (named x y) (y .strong) e in
+          let parts = both-true (named x y) (y .asked .strong) e in
           let known = subset-member (x .context) (a .known) (y .number) whole (parts .0) in
           rw (parts .1, known)

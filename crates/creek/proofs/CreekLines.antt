@@ -70,7 +70,7 @@ placed-between x (y ∷ ys) absent o =
 
 -- ---- the context of a strong request that is made: causalCtx without the tentative requests that it is before [19]
 
-pub made-names : (a : Plan) (i : Invocation) (n : Number) → i .strong ≡ true
+pub made-names : (a : Plan) (i : Invocation) (n : Number) → i .asked .strong ≡ true
     → member (made a i .context) n ≡ (member (a .known) n && not (somePasses (hasNumber n) (subsequent (made a i) (a .tentative))))
 unfolding made atLeast before
 made-names a i n strong =

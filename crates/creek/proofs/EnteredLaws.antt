@@ -83,7 +83,7 @@ module _ (a : Plan) (x : Request) (new : New a x) (sound : SoundPlan a) where
       → knownAgainstStrength (knownAfter strong) y ≡ true → knownAgainstStrength (a .known) y ≡ true
   others-as-before true y other e = e
   others-as-before false y other e =
-      ap (Bool·beq (y .strong)) (sym (other-known (a .known) (x .number) (sound .held .known-words) enters-good y other)) ∙ e
+      ap (Bool·beq (y .asked .strong)) (sym (other-known (a .known) (x .number) (sound .held .known-words) enters-good y other)) ∙ e
 
   -- itself it is known exactly where it is weak
   itself-known : (strong : Bool) → Bool·beq strong (member (knownAfter strong) (x .number)) ≡ false
@@ -97,17 +97,17 @@ module _ (a : Plan) (x : Request) (new : New a x) (sound : SoundPlan a) where
   pub entered-sound : SoundPlan (entered a x)
   unfolding entered
   entered-sound = record {
-    held = known-enters (x .strong);
+    held = known-enters (x .asked .strong);
     clock-order = placed-ordered x (a .tentative) absent-tentative (sound .clock-order);
-    committed-known = committed-known-enters (x .strong);
+    committed-known = committed-known-enters (x .asked .strong);
     tentative-known =
         omega (
           arith,
-          placed-count (knownAgainstStrength (knownAfter (x .strong))) x (a .tentative),
-          one-false (itself-known (x .strong)),
+          placed-count (knownAgainstStrength (knownAfter (x .asked .strong))) x (a .tentative),
+          one-false (itself-known (x .asked .strong)),
           sound .tentative-known,
           absent-tentative,
-          count-implies (knownAgainstStrength (knownAfter (x .strong))) (knownAgainstStrength (a .known)) (hasNumber (x .number))
-              (others-as-before (x .strong)) (a .tentative),
+          count-implies (knownAgainstStrength (knownAfter (x .asked .strong))) (knownAgainstStrength (a .known)) (hasNumber (x .number))
+              (others-as-before (x .asked .strong)) (a .tentative),
         );
   }

@@ -12,7 +12,7 @@ use Rattle.sets.specs.declared.Context.{Context}
 use Rattle.numbers.specs.declared.Number.{Number}
 use Rattle.request.specs.declared.Request.{Request}
 use Rattle.numbers.specs.Numbers.{sameNumber, badNumber, mostPanels, GoodNumber, slotOf, numberOf}
-use Rattle.request.specs.Operations.{badOperation}
+use Rattle.request.specs.Asked.{badAsked}
 use Rattle.sets.specs.Sets.{member, join}
 use Rattle.request.specs.Request.{badContext}
 use Rattle.lists.proofs.BoolLaws.{true-not-false, both-true, both, neither-true}
@@ -28,7 +28,7 @@ use Rattle.sets.proofs.PanelLaws.{namesFrom-join}
 
 pub record Good (panels : ℕ) (x : Request) : Type 0 where
   pub number : badNumber panels (x .number) ≡ false
-  pub operation : badOperation (x .operation) ≡ false
+  pub asked : badAsked (x .asked) ≡ false
   pub context : badContext panels x ≡ false
 
 pub good-request : (panels : ℕ) (x : Request) → isBad panels x ≡ false → Good panels x
@@ -36,7 +36,7 @@ unfolding isBad
 good-request panels x e =
     let last = neither-true _ _ e in
     let first = neither-true _ _ (last .0) in
-    record { number = first .0; operation = first .1; context = last .1 }
+    record { number = first .0; asked = first .1; context = last .1 }
 
 -- a number of a small shop is one of the largest
 pub widened : {panels : ℕ} {n : Number} → panels ≤ mostPanels → GoodNumber panels n → GoodNumber mostPanels n

@@ -18,14 +18,14 @@ use Rattle.creek.proofs.CallLaws.{by-outcome}
 use Rattle.creek.proofs.StackLaws.{board-undone, board-execution}
 
 -- one good move more at the end of a replay
-sum-more : (l : List Request) (x : Request) → goodMove (x .operation) ≡ true
+sum-more : (l : List Request) (x : Request) → goodMove (x .asked .operation) ≡ true
     → sum (replay (operations (l ++ x ∷ []))) ≡ sum (replay (operations l))
 sum-more l x good =
     ap (λ (os : List Operation). sum (replay os)) (map-append _ l (x ∷ []))
-    ∙ ap sum (replay-more (operations l) (x .operation))
-    ∙ sum-exec (x .operation) (replay (operations l)) good (replay-length (operations l))
+    ∙ ap sum (replay-more (operations l) (x .asked .operation))
+    ∙ sum-exec (x .asked .operation) (replay (operations l)) good (replay-length (operations l))
 
-module _ (r : Replica) (x : Request) (rest : List Request) (good : goodMove (x .operation) ≡ true) where
+module _ (r : Replica) (x : Request) (rest : List Request) (good : goodMove (x .asked .operation) ≡ true) where
   sum-carried-out : r .book .execution .todo ≡ x ∷ rest → refusal (r .book) execute ≡ refused.accepted → sumOf (accept r execute) ≡ sumOf r
   unfolding accept accepted refusal registers
   sum-carried-out first taken =

@@ -7,6 +7,7 @@ use lib.ListN.{getD}
 use Rattle.request.specs.declared.Request.{Request}
 use Rattle.numbers.specs.Numbers.{sameNumber, badNumber}
 use Rattle.request.specs.Operations.{sameOperation, badOperation}
+use Rattle.request.specs.Asked.{sameAsked, badAsked}
 use Rattle.sets.specs.Sets.{sameWords, sameContext, allZero, isEmpty, namesFrom, bit, member, join, leave}
 use Rattle.sets.specs.Sets.{lackedWords, difference, subset}
 use Rattle.request.specs.Order.{before}
@@ -29,12 +30,12 @@ use Rattle.creek.specs.Pairs.{placesIn, strongZero, weakOne, spreadByZer
 use Rattle.creek.specs.Pairs.{SuppositionsMet, DifferentOrders, SuppositionsNeeded}
 
 pub pairs-told : map (λ (c : Case). c .computed) pairs ≡ map (λ (c : Case). c .said) pairs
-unfolding pairs placesIn answers numbers driven sameNumber badNumber sameOperation badOperation sameWords sameContext allZero isEmpty
-    namesFrom bit member join leave lackedWords difference subset before sameRequest badContext offBoard added claimed exec response
-    replayOn replay lastEvent lastClock entered without atLeast made committing committingFound invokeRefusal deliverRefusal
-    commitRefusal registers adjusted undone undoRefusal executedNext executeRefusal refusal accepted settlementReply stableReplyDue
-    undoReply executionMark executionReply acceptedAnswer namedByRefusal answerOf acceptedAwaiting badShop fresh accept step run
-    afterDueSteps registerShown
+unfolding pairs placesIn answers numbers driven sameNumber badNumber sameOperation badOperation sameAsked badAsked sameWords sameContext
+    allZero isEmpty namesFrom bit member join leave lackedWords difference subset before sameRequest badContext offBoard added claimed
+    exec response replayOn replay lastEvent lastClock entered without atLeast made committing committingFound invokeRefusal
+    deliverRefusal commitRefusal registers adjusted undone undoRefusal executedNext executeRefusal refusal accepted settlementReply
+    stableReplyDue undoReply executionMark executionReply acceptedAnswer namedByRefusal answerOf acceptedAwaiting badShop fresh accept
+    step run afterDueSteps registerShown
 pairs-told = refl
 
 -- ---- the suppositions
@@ -43,9 +44,9 @@ swapped : (x y : Request) → SameRequests (x ∷ y ∷ []) (y ∷ x ∷ [])
 swapped x y z = omega arith
 
 pub suppositions-met : SuppositionsMet
-unfolding sameNumber badNumber badOperation allZero isEmpty namesFrom bit member join leave lackedWords difference subset before badContext
-    lastEvent lastClock entered without atLeast made committing committingFound invokeRefusal deliverRefusal commitRefusal refusal
-    accepted noted acceptedAnswer answerOf badShop fresh gathered
+unfolding sameNumber badNumber badOperation badAsked allZero isEmpty namesFrom bit member join leave lackedWords difference subset
+    before badContext lastEvent lastClock entered without atLeast made committing committingFound invokeRefusal deliverRefusal
+    commitRefusal refusal accepted noted acceptedAnswer answerOf badShop fresh gathered
 suppositions-met = record {
   interleaved = record { requests = swapped strongZero weakOne; settlements = refl };
   made-and-heard = record { requests = swapped spreadByZero weakOne; settlements = refl };
@@ -57,11 +58,12 @@ different : (h k : History) → (numbers (order (replicaAfter h .book .plan)) �
 different h k differ e = differ (ap numbers e)
 
 pub suppositions-needed : SuppositionsNeeded
-unfolding numbers sameNumber badNumber sameOperation badOperation sameWords sameContext allZero isEmpty namesFrom bit member join leave
-    lackedWords difference subset before sameRequest badContext offBoard added exec replayOn replay entered committing committingFound
-    deliverRefusal commitRefusal registers adjusted executedNext executeRefusal refusal accepted noted badShop fresh accept step run
-    inClockOrder committingInTurn standingOrder gathered claimed response lastEvent lastClock without atLeast made
-    invokeRefusal responseOn responseIn executionMark executionReply acceptedAnswer answerOf acceptedAwaiting settlementReply stableReplyDue
+unfolding numbers sameNumber badNumber sameOperation badOperation sameAsked badAsked sameWords sameContext allZero isEmpty namesFrom bit
+    member join leave lackedWords difference subset before sameRequest badContext offBoard added exec replayOn replay entered committing
+    committingFound deliverRefusal commitRefusal registers adjusted executedNext executeRefusal refusal accepted noted badShop fresh
+    accept step run inClockOrder committingInTurn standingOrder gathered claimed response lastEvent lastClock without atLeast made
+    invokeRefusal responseOn responseIn executionMark executionReply acceptedAnswer answerOf acceptedAwaiting settlementReply
+    stableReplyDue
 suppositions-needed = record {
   same-requests = refl;
   zero-first = refl;
@@ -81,4 +83,4 @@ suppositions-needed = record {
   where
     amounts : List Request → ℕ
     amounts [] = 0
-    amounts (x ∷ xs) = x .operation .amount
+    amounts (x ∷ xs) = x .asked .operation .amount

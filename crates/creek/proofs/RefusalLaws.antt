@@ -16,7 +16,7 @@ use Rattle.creek.specs.Calls.{Replica, answer}
 
 -- of the request that a settlement refused with 12 is about, a context number is not known
 found-lacks : (a : Plan) (n : Number) (x : Request) → foundRefusal a n (some x) ≡ refused.waits → subset (x .context) (a .known) ≡ false
-found-lacks a n x h = go (x .strong) (isCommitted a n) (subset (x .context) (a .known)) h
+found-lacks a n x h = go (x .asked .strong) (isCommitted a n) (subset (x .context) (a .known)) h
   where
     go : (strong committed whole : Bool)
         → met (not strong) refused.weak (met committed refused.settledAlready (met (not whole) refused.waits refused.accepted))

@@ -42,10 +42,10 @@ use Rattle.creek.proofs.SilentLaws.{good-next}
 -- a carry-out whose reply ends the waiting is not of a tentative strong request
 module _ (r : Replica) (x : Request) (xs : List Request) (next : r .book .execution .todo ≡ x ∷ xs) (sound : Sound r) where
   abbrev strongOf : Request → Bool
-  strongOf y = y .strong && hasNumber (x .number) y
+  strongOf y = y .asked .strong && hasNumber (x .number) y
 
   abbrev weakOf : Request → Bool
-  weakOf y = not (y .strong) && hasNumber (x .number) y
+  weakOf y = not (y .asked .strong) && hasNumber (x .number) y
 
   pub order-counted : (p : Request → Bool) → count p (r .book .execution .executed) + (one (p x) + count p xs)
       ≡ count p (r .book .plan .committed) + count p (r .book .plan .tentative)
@@ -60,7 +60,7 @@ module _ (r : Replica) (x : Request) (xs : List Request) (next : r .book .execut
 
   ended-elsewhere : endsWaiting (executionMark (r .book .plan) (r .awaiting) x) ≡ true → count strongOf (r .book .plan .tentative) ≡ 0
   unfolding executionMark
-  ended-elsewhere ends = go (member (r .awaiting) (x .number)) (x .strong) (isCommitted (r .book .plan) (x .number)) refl refl ends
+  ended-elsewhere ends = go (member (r .awaiting) (x .number)) (x .asked .strong) (isCommitted (r .book .plan) (x .number)) refl refl ends
     where
       once : count (hasNumber (x .number)) (r .book .plan .committed) + count (hasNumber (x .number)) (r .book .plan .tentative) ≤ 1
       once =
@@ -70,7 +70,7 @@ module _ (r : Replica) (x : Request) (xs : List Request) (next : r .book .execut
             count-append (hasNumber (x .number)) (r .book .plan .committed) (r .book .plan .tentative),
           )
 
-      go : (awaited strong committed : Bool) → x .strong ≡ strong → isCommitted (r .book .plan) (x .number) ≡ committed
+      go : (awaited strong committed : Bool) → x .asked .strong ≡ strong → isCommitted (r .book .plan) (x .number) ≡ committed
           → endsWaiting (cond awaited (cond strong (cond committed stableMark tentativeMark) weakMark) noMark) ≡ true
           → count strongOf (r .book .plan .tentative) ≡ 0
       go true true true s c e =
@@ -78,7 +78,7 @@ module _ (r : Replica) (x : Request) (xs : List Request) (next : r .book .execut
             arith,
             once,
             passes-count (hasNumber (x .number)) (r .book .plan .committed) c,
-            count-weaker strongOf (hasNumber (x .number)) (λ y f. both-true (y .strong) _ f .1) (r .book .plan .tentative),
+            count-weaker strongOf (hasNumber (x .number)) (λ y f. both-true (y .asked .strong) _ f .1) (r .book .plan .tentative),
           )
       go true true false s c e = true-not-false e refl
       go true false k s c e =
@@ -87,8 +87,8 @@ module _ (r : Replica) (x : Request) (xs : List Request) (next : r .book .execut
             once,
             order-counted weakOf,
             one-true (both (ap not s) (sameNumber-self (x .number))),
-            count-either (hasNumber (x .number)) (λ y. y .strong) (r .book .plan .committed),
-            count-either (hasNumber (x .number)) (λ y. y .strong) (r .book .plan .tentative),
+            count-either (hasNumber (x .number)) (λ y. y .asked .strong) (r .book .plan .committed),
+            count-either (hasNumber (x .number)) (λ y. y .asked .strong) (r .book .plan .tentative),
           )
       go false s k t c e = true-not-false e refl
 
@@ -98,12 +98,12 @@ module _ (r : Replica) (i : Invocation) (taken : refusal (r .book) (invoke i) �
   made-awaits : (y : Request) → strongUnawaited (r .book .plan .own) (join (r .awaiting) (made (r .book .plan) i .number)) y ≡ true
       → strongUnawaited (r .book .plan .own) (r .awaiting) y ≡ true
   made-awaits y e =
-      let parts = both-true (isOf (r .book .plan .own) y && y .strong) _ e in
+      let parts = both-true (isOf (r .book .plan .own) y && y .asked .strong) _ e in
       both (parts .0) (still-known (r .awaiting) (made (r .book .plan) i .number) words (good-next r i taken sound) y (parts .1))
 
   made-itself : strongUnawaited (r .book .plan .own) (join (r .awaiting) (made (r .book .plan) i .number)) (made (r .book .plan) i) ≡ false
   made-itself =
-      second-false (isOf (r .book .plan .own) (made (r .book .plan) i) && made (r .book .plan) i .strong)
+      second-false (isOf (r .book .plan .own) (made (r .book .plan) i) && made (r .book .plan) i .asked .strong)
       (ap not (now-known (r .awaiting) (made (r .book .plan) i .number) words (good-next r i taken sound)))
 
 -- at a settlement those that stay tentative await as before
@@ -111,7 +111,7 @@ settled-awaits : (own : ℕ) (awaiting : Context) (x : Request) (mark : ℕ) (y 
     → stays x y && strongUnawaited own (awaitingAfter awaiting (x .number) mark) y ≡ true → strongUnawaited own awaiting y ≡ true
 settled-awaits own awaiting x mark y e =
     let parts = both-true (stays x y) _ e in
-    let inner = both-true (isOf own y && y .strong) _ (parts .1) in
+    let inner = both-true (isOf own y && y .asked .strong) _ (parts .1) in
     both (inner .0) (ap not (sym (awaiting-other awaiting (x .number) mark (y .number) (stays-other x y (parts .0)))) ∙ inner .1)
 
 settled-strong : (own : ℕ) (awaiting : Context) (x : Request) (mark : ℕ) (t : List Request) → count (strongUnawaited own awaiting) t ≡ 0
@@ -161,13 +161,13 @@ execution-awaits r taken sound h = go (r .book .execution .todo) refl
               arith,
               h,
               ended-elsewhere r x xs e sound f,
-              count-implies (test true) (test false) (λ y. y .strong && hasNumber (x .number) y) still (r .book .plan .tentative),
+              count-implies (test true) (test false) (λ y. y .asked .strong && hasNumber (x .number) y) still (r .book .plan .tentative),
             )
           where
-            still : (y : Request) → y .strong && hasNumber (x .number) y ≡ false → test true y ≡ true → test false y ≡ true
+            still : (y : Request) → y .asked .strong && hasNumber (x .number) y ≡ false → test true y ≡ true → test false y ≡ true
             still y g t =
-                let parts = both-true (isOf (r .book .plan .own) y && y .strong) _ t in
-                let strong = both-true (isOf (r .book .plan .own) y) (y .strong) (parts .0) .1 in
+                let parts = both-true (isOf (r .book .plan .own) y && y .asked .strong) _ t in
+                let strong = both-true (isOf (r .book .plan .own) y) (y .asked .strong) (parts .0) .1 in
                 let other = sym (ap (λ (b : Bool). b && hasNumber (x .number) y) strong) ∙ g in
                 both (parts .0) (ap not (sym (leave-other (r .awaiting) (x .number) (y .number) other)) ∙ parts .1)
 
@@ -197,7 +197,7 @@ accept-awaiting r (deliver x) taken sound w = record {
         w .strong-await,
         one-false
             (first-false (not (member (r .awaiting) (x .number)))
-            (first-false (x .strong) (not-own (r .book .plan) (sound .plan) x taken))),
+            (first-false (x .asked .strong) (not-own (r .book .plan) (sound .plan) x taken))),
       );
 }
 accept-awaiting r (commit m) taken sound w =

@@ -65,7 +65,7 @@ module _ (b : Book) (s : ℕ) (k : Counters) (i : SoundBook b s k) where
     follows = adjusted-follows (order (entered a x)) e;
     board-held = λ test.
         omega (arith, i .board-held test, entered-count a x test, ap (count test) (adjusted-board (order (entered a x)) e));
-    commits-strong = omega (arith, i .commits-strong, ap (count (λ x. x .strong)) (entered-committed a x));
+    commits-strong = omega (arith, i .commits-strong, ap (count (λ x. x .asked .strong)) (entered-committed a x));
     within = rw (entered-length a x) (within-entered (k .undos + length (e .rollback)) _ s (length (order a)) (i .within)
         (omega (arith, rollback-most (order (entered a x)) e (i .follows))));
     on-board = omega (arith, i .on-board, ap length (adjusted-board (order (entered a x)) e));
@@ -74,7 +74,7 @@ module _ (b : Book) (s : ℕ) (k : Counters) (i : SoundBook b s k) where
       plan : SoundPlan (entered (b .plan) x)
       plan = entered-sound (b .plan) x new (i .plan)
 
-  committing-book : (x : Request) → find (hasNumber (x .number)) (b .plan .tentative) ≡ some x → x .strong ≡ true
+  committing-book : (x : Request) → find (hasNumber (x .number)) (b .plan .tentative) ≡ some x → x .asked .strong ≡ true
       → subset (x .context) (b .plan .known) ≡ true
       → SoundBook (planned (committing (b .plan) x) (b .execution)) (s + 1) (counted k 0 0)
   committing-book x found strong whole = record {
@@ -92,7 +92,13 @@ module _ (b : Book) (s : ℕ) (k : Counters) (i : SoundBook b s k) where
     within =
         rw (committing-length a x found (i .plan))
         (within-committed (k .undos + length (e .rollback)) _ s (length (order a)) (i .within)
-        (omega (arith, lost, i .commits-strong, count-most (λ x. x .strong) (a .committed), length-append (a .committed) (a .tentative))));
+        (omega (
+          arith,
+          lost,
+          i .commits-strong,
+          count-most (λ x. x .asked .strong) (a .committed),
+          length-append (a .committed) (a .tentative),
+        )));
     on-board = omega (arith, i .on-board, ap length (adjusted-board (order (committing a x)) e));
   }
     where

@@ -148,19 +148,19 @@ module _ (r : Replica) (x : Request) (xs : List Request) (next : r .book .execut
 
   -- its response is its response in a replay of the executed list with it
   carried-out : (m : List Request)
-      → response (x .operation) (registers (r .book .execution)) ≡ responseIn (x .number) (r .book .execution .executed ++ x ∷ m)
+      → response (x .asked .operation) (registers (r .book .execution)) ≡ responseIn (x .number) (r .book .execution .executed ++ x ∷ m)
   unfolding refusal registers
   carried-out m =
       let empty = executes (r .book .execution) taken .nothing-back in
-      ap (λ (l : List Request). response (x .operation) (replay (operations l))) (board-executed (r .book .execution) empty)
+      ap (λ (l : List Request). response (x .asked .operation) (replay (operations l))) (board-executed (r .book .execution) empty)
       ∙ sym (response-behind x (r .book .execution .executed) m absent)
 
   execute-stands : executionMark (r .book .plan) (r .awaiting) x ≡ stableMark
-      → Stands (x .number) (response (x .operation) (registers (r .book .execution))) (accept r execute .book)
+      → Stands (x .number) (response (x .asked .operation) (registers (r .book .execution))) (accept r execute .book)
   unfolding executionMark accept accepted
   execute-stands mark =
       let there = passes-count (hasNumber (x .number)) (r .book .plan .committed)
-      (of-mark (member (r .awaiting) (x .number)) (x .strong) _ mark) in
+      (of-mark (member (r .awaiting) (x .number)) (x .asked .strong) _ mark) in
       record {
         there = there;
         is =
@@ -235,12 +235,13 @@ module _ (n : Number) (v : ℕ) where
       (taken : refusal (r .book) execute ≡ refused.accepted) (sound : Sound r) (before : Recorded n v (r .book .execution)) where
     -- one more executed request
     pub executed-recorded : 1 ≤ count (hasNumber n) (r .book .execution .executed ++ x ∷ [])
-        → cond (sameNumber n (x .number)) (response (x .operation) (registers (r .book .execution))) v
+        → cond (sameNumber n (x .number)) (response (x .asked .operation) (registers (r .book .execution))) v
         ≡ responseIn n (r .book .execution .executed ++ x ∷ [])
     executed-recorded c = go (sameNumber n (x .number)) refl
       where
         go : (b : Bool) → sameNumber n (x .number) ≡ b
-            → cond b (response (x .operation) (registers (r .book .execution))) v ≡ responseIn n (r .book .execution .executed ++ x ∷ [])
+            → cond b (response (x .asked .operation) (registers (r .book .execution))) v
+            ≡ responseIn n (r .book .execution .executed ++ x ∷ [])
         go true e =
             carried-out r x xs next taken sound []
             ∙ ap (λ (m : Number). responseIn m (r .book .execution .executed ++ x ∷ [])) (sym (sameNumber-sound n (x .number) e))

@@ -110,7 +110,7 @@ last-reply panels own calls c = record {
 
 -- an own strong request that is to be carried out and is not committed awaits its reply
 strong-awaited : (r : Replica) (x : Request) (xs : List Request) → r .book .execution .todo ≡ x ∷ xs → Sound r → SoundAwaiting r
-    → isOf (r .book .plan .own) x ≡ true → x .strong ≡ true → isCommitted (r .book .plan) (x .number) ≡ false
+    → isOf (r .book .plan .own) x ≡ true → x .asked .strong ≡ true → isCommitted (r .book .plan) (x .number) ≡ false
     → member (r .awaiting) (x .number) ≡ true
 strong-awaited r x xs next sound w own strong new = go (member (r .awaiting) (x .number)) refl
   where

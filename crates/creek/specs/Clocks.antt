@@ -7,7 +7,7 @@ use mathlib.Core.Bool.{true, false}
 use mathlib.Core.Option.{some}
 use Rattle.request.specs.declared.Request.{Request}
 use Rattle.numbers.specs.Numbers.{mostEvents}
-use Rattle.request.specs.Operations.{badOperation}
+use Rattle.request.specs.Asked.{badAsked}
 use Rattle.request.specs.Order.{before}
 use Rattle.request.specs.Refusal as refused
 use Rattle.request.specs.Refusal.{NotClockBack}
@@ -26,7 +26,7 @@ pub record ClockTaken (a : Plan) (i : Invocation) : Type 0 where
 
 -- with a good operation and fewer than 64 own requests held it goes through, whatever its clock
 pub record GoesThrough (b : Book) (i : Invocation) : Type 0 where
-  pub accepted : badOperation (i .operation) ≡ false → lastEvent (b .plan) < mostEvents → refusal b (invoke i) ≡ refused.accepted
+  pub accepted : badAsked (i .asked) ≡ false → lastEvent (b .plan) < mostEvents → refusal b (invoke i) ≡ refused.accepted
 
 -- ---- the own requests that are held
 

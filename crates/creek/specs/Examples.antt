@@ -5,6 +5,7 @@ use mathlib.Core.List.{List, [], _∷_}
 use lib.ListN.{getD, replicate}
 use Rattle.sets.specs.declared.Context.{Context}
 use Rattle.request.specs.declared.Operation.{Operation}
+use Rattle.request.specs.declared.asked.Asked.{Asked}
 use Rattle.request.specs.declared.Request.{Request}
 use Rattle.numbers.specs.Numbers.{numbered}
 use Rattle.request.specs.Operations.{codeRead, codeSet, codeAdd, codeClaim, codeMove}
@@ -43,13 +44,16 @@ claim r v = operation codeClaim r 0 v
 abbrev pub move : ℕ → ℕ → ℕ → Operation
 move v r q = operation codeMove r q v
 
+-- that operation, strong or weak
+abbrev pub asking : Operation → Bool → Asked
+asking o isStrong = record { operation = o; strong = isStrong }
+
 -- request p/e with that clock reading
 abbrev pub request : ℕ → ℕ → ℕ → Operation → Bool → Context → Request
 request p e clock o isStrong context = record {
   number = numbered p e;
   clock = record { 0 = clock };
-  operation = o;
-  strong = isStrong;
+  asked = asking o isStrong;
   context = context;
 }
 
@@ -61,7 +65,7 @@ strong p e clock o context = request p e clock o true context
 
 -- make a request with that clock reading
 abbrev pub making : ℕ → Operation → Bool → Call
-making clock o isStrong = invoke (record { operation = o; strong = isStrong; clock = record { 0 = clock } })
+making clock o isStrong = invoke (record { asked = asking o isStrong; clock = record { 0 = clock } })
 
 abbrev pub make : ℕ → Operation → Call
 make clock o = making clock o false

@@ -31,7 +31,7 @@ abbrev pub board : Execution → List Request
 board e = e .executed ++ reverse (e .rollback)
 
 abbrev pub operations : List Request → List Operation
-operations l = map (λ x. x .operation) l
+operations l = map (λ x. x .asked .operation) l
 
 -- the registers are one replay of the requests on the board
 unfoldable pub registers : Execution → List ℕ

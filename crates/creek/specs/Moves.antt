@@ -17,7 +17,7 @@ sumOf r = sum (registers (r .book .execution))
 
 -- where the first of the to-do list or of the undo list is a good move, its step leaves the sum as it was; a refused one changes nothing
 pub record MovesKeepSum (r : Replica) : Type 0 where
-  pub carried-out : (x : Request) (rest : List Request) → r .book .execution .todo ≡ x ∷ rest → goodMove (x .operation) ≡ true
+  pub carried-out : (x : Request) (rest : List Request) → r .book .execution .todo ≡ x ∷ rest → goodMove (x .asked .operation) ≡ true
       → sumOf (step r execute) ≡ sumOf r
-  pub undone : (x : Request) (rest : List Request) → r .book .execution .rollback ≡ x ∷ rest → goodMove (x .operation) ≡ true
+  pub undone : (x : Request) (rest : List Request) → r .book .execution .rollback ≡ x ∷ rest → goodMove (x .asked .operation) ≡ true
       → sumOf (step r undo) ≡ sumOf r

@@ -11,7 +11,7 @@ use Rattle.sets.specs.declared.Context.{Context}
 use Rattle.numbers.specs.declared.Number.{Number}
 use Rattle.request.specs.declared.Request.{Request}
 use Rattle.numbers.specs.Numbers.{clockReading, numbered, sameNumber, badNumber, mostEvents}
-use Rattle.request.specs.Operations.{badOperation}
+use Rattle.request.specs.Asked.{badAsked}
 use Rattle.sets.specs.Sets.{emptySet, member, join, leave, subset}
 use Rattle.request.specs.Order.{before}
 use Rattle.request.specs.Request.{sameRequest, badContext}
@@ -89,7 +89,7 @@ unfoldable pub entered : Plan → Request → Plan
 entered a x = record {
   panels = a .panels;
   own = a .own;
-  known = knownWith (a .known) (x .strong) (x .number);
+  known = knownWith (a .known) (x .asked .strong) (x .number);
   committed = a .committed;
   tentative = placed x (a .tentative);
 }
@@ -110,8 +110,7 @@ abbrev pub requestWith : Plan → Invocation → Context → Request
 requestWith a i context = record {
   number = nextNumber a;
   clock = i .clock;
-  operation = i .operation;
-  strong = i .strong;
+  asked = i .asked;
   context = context;
 }
 
@@ -121,11 +120,11 @@ later a i = keep (before (requestWith a i emptySet)) (a .tentative)
 
 -- its context: a strong one's is the known set without the later tentative requests, a weak one's is empty [18, 19]
 abbrev pub contextOf : Plan → Invocation → Context
-contextOf a i = cond (i .strong) (without (a .known) (later a i)) emptySet
+contextOf a i = cond (i .asked .strong) (without (a .known) (later a i)) emptySet
 
 -- i with its clock reading or, where that is lower, with the given one
 unfoldable pub atLeast : ℕ → Invocation → Invocation
-atLeast last i = record { operation = i .operation; strong = i .strong; clock = clockReading (max last (i .clock .0)) }
+atLeast last i = record { asked = i .asked; clock = clockReading (max last (i .clock .0)) }
 
 -- the request to be spread; one made with a lower clock takes the reading of the last own request (document 02, request (b)), and that
 -- reading gives it its place and its context too
@@ -178,7 +177,7 @@ met test number rest = cond test number rest
 -- make: bad operation, shift full; a lower clock is no refusal (document 02, request (b))
 unfoldable pub invokeRefusal : Plan → Invocation → ℕ
 invokeRefusal a i =
-    met (badOperation (i .operation)) refused.badOperation
+    met (badAsked (i .asked)) refused.badOperation
     (met (leb mostEvents (lastEvent a)) refused.shiftFull
     refused.accepted)
 
@@ -192,7 +191,7 @@ unfoldable pub deliverRefusal : Plan → Request → ℕ
 deliverRefusal a x =
     met (badNumber (a .panels) (x .number)) refused.badNumber
     (met (isOf (a .own) x) refused.ownEcho
-    (met (badOperation (x .operation)) refused.badOperation
+    (met (badAsked (x .asked)) refused.badOperation
     (met (badContext (a .panels) x) refused.badContext
     (heldRefusal (held a (x .number)) x))))
 
@@ -208,7 +207,7 @@ waits a x = not (subset (x .context) (a .known))
 abbrev pub foundRefusal : Plan → Number → Option Request → ℕ
 foundRefusal a n none = refused.notHere
 foundRefusal a n (some x) =
-    met (not (x .strong)) refused.weak
+    met (not (x .asked .strong)) refused.weak
     (met (isCommitted a n) refused.settledAlready
     (met (waits a x) refused.waits
     refused.accepted))

@@ -1,6 +1,6 @@
 -- Replies: what every call answers, field by field, and which own requests await a reply afterwards.
 use Prim.Native.Nat.{ℕ}
-use mathlib.Core.Bool.{Bool, false, _&&_, _||_, cond}
+use mathlib.Core.Bool.{Bool, _&&_, _||_, cond}
 use mathlib.Core.List.{List, [], _∷_}
 use mathlib.Core.Option.{Option, none, some}
 use lib.Dec.{eqb}
@@ -8,8 +8,9 @@ use Rattle.sets.specs.declared.Context.{Context}
 use Rattle.numbers.specs.declared.Number.{Number}
 use Rattle.request.specs.declared.Request.{Request}
 use Rattle.numbers.specs.Numbers.{noNumber}
-use Rattle.sets.specs.Sets.{emptySet, member, join, leave, lowestLacking}
+use Rattle.sets.specs.Sets.{member, join, leave, lowestLacking}
 use Rattle.request.specs.Refusal as refused
+use Rattle.request.specs.Request.{noRequest}
 use Rattle.registers.specs.Effect.{exec, response}
 use Rattle.registers.specs.Replay.{zeroBoard}
 use Rattle.creek.specs.declared.Answer.{Answer}
@@ -33,16 +34,6 @@ tentativeMark = 2
 abbrev pub stableMark : ℕ
 stableMark = 3
 
--- the request of zeros, which stands where none is to be spread
-abbrev pub noRequest : Request
-noRequest = record {
-  number = noNumber;
-  clock = record { 0 = 0 };
-  operation = record { code = 0; r = 0; q = 0; amount = 0 };
-  strong = false;
-  context = emptySet;
-}
-
 -- a request to be spread, and zeros elsewhere
 abbrev pub spread : Request → Answer
 spread x = record { refusal = refused.accepted; request = x; number = noNumber; response = 0; mark = noMark }
@@ -64,7 +55,7 @@ refusedWith k n = record { refusal = k; request = noRequest; number = n; respons
 -- the response of the request of that number when those requests are executed in turn on registers b, 0 where it is not among them
 unfoldable pub responseOn : List ℕ → Number → List Request → ℕ
 responseOn b n [] = 0
-responseOn b n (x ∷ xs) = cond (hasNumber n x) (response (x .operation) b) (responseOn (exec (x .operation) b) n xs)
+responseOn b n (x ∷ xs) = cond (hasNumber n x) (response (x .asked .operation) b) (responseOn (exec (x .asked .operation) b) n xs)
 
 -- its response in one replay of those requests
 unfoldable pub responseIn : Number → List Request → ℕ
@@ -78,14 +69,14 @@ markOf awaited strong committed = cond awaited (cond strong (cond committed stab
 
 -- the mark of a carry-out: nobody waits, weak, stable for a committed request, tentative for one that is not
 unfoldable pub executionMark : Plan → Context → Request → ℕ
-executionMark a awaiting x = markOf (member awaiting (x .number)) (x .strong) (isCommitted a (x .number))
+executionMark a awaiting x = markOf (member awaiting (x .number)) (x .asked .strong) (isCommitted a (x .number))
 
 -- the answer of a carry-out, of the first of that to-do list: its number, its response on the registers as they are, and the mark;
 -- an accepted carry-out finds one there
 unfoldable pub executionReply : Book → Context → List Request → Answer
 executionReply b awaiting [] = done
 executionReply b awaiting (x ∷ xs) =
-    reply (x .number) (response (x .operation) (registers (b .execution))) (executionMark (b .plan) awaiting x)
+    reply (x .number) (response (x .asked .operation) (registers (b .execution))) (executionMark (b .plan) awaiting x)
 
 -- ---- settle [55 to 57]
 

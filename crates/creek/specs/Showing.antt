@@ -6,9 +6,9 @@ use lib.Dec.{ltb, eqb}
 use Rattle.request.specs.declared.Request.{Request}
 use Rattle.request.specs.Operations.{lastRegister}
 use Rattle.request.specs.Refusal as refused
+use Rattle.request.specs.Request.{noRequest}
 use Rattle.creek.specs.Plan.{order}
 use Rattle.creek.specs.Execution.{registers, owed}
-use Rattle.creek.specs.Replies.{noRequest}
 use Rattle.creek.specs.Calls.{Replica}
 
 -- ---- a register

@@ -11,7 +11,7 @@ use Rattle.sets.specs.declared.Context.{Context}
 use Rattle.numbers.specs.declared.Number.{Number}
 use Rattle.request.specs.declared.Request.{Request}
 use Rattle.numbers.specs.Numbers.{badNumber, mostPanels, mostEvents}
-use Rattle.request.specs.Operations.{badOperation}
+use Rattle.request.specs.Asked.{badAsked}
 use Rattle.sets.specs.Sets.{member, namesFrom}
 use Rattle.request.specs.Order.{before}
 use Rattle.request.specs.Request.{badContext}
@@ -27,7 +27,7 @@ mostRequests = mostPanels * mostEvents
 
 -- a request that no shop of those panels holds: bad number, bad operation or bad context
 unfoldable pub isBad : ℕ → Request → Bool
-isBad panels x = badNumber panels (x .number) || badOperation (x .operation) || badContext panels x
+isBad panels x = badNumber panels (x .number) || badAsked (x .asked) || badContext panels x
 
 -- an own request with an event past how many there are
 unfoldable pub ownBeyond : ℕ → ℕ → Request → Bool
@@ -55,7 +55,7 @@ unknown known x = not (member known (x .number))
 
 -- x is strong and known, or weak and unknown
 abbrev pub knownAgainstStrength : Context → Request → Bool
-knownAgainstStrength known x = Bool·beq (x .strong) (member known (x .number))
+knownAgainstStrength known x = Bool·beq (x .asked .strong) (member known (x .number))
 
 pub record SoundPlan (a : Plan) : Type 0 where
   pub held : Held (a .panels) (a .own) (a .known) (order a)
@@ -79,7 +79,7 @@ pub record SoundBook (b : Book) (commits : ℕ) (counters : Counters) : Type 0 w
   -- the requests on the board are among those held, each once: the executed list and the rollback list have none in common
   pub board-held : (test : Request → Bool) → count test (board (b .execution)) ≤ count test (order (b .plan))
   -- the settlements accepted are the strong requests that are committed
-  pub commits-strong : commits ≡ count (λ x. x .strong) (b .plan .committed)
+  pub commits-strong : commits ≡ count (λ x. x .asked .strong) (b .plan .committed)
   pub within : WithinBound (counters .undos + length (b .execution .rollback)) commits (length (order (b .plan)))
   -- carry-outs done exceed undos done by the requests on the board
   pub on-board : counters .executions ≡ counters .undos + length (board (b .execution))

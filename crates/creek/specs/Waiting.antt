@@ -28,12 +28,12 @@ pub record LastReply (r : Replica) (c : Call) : Type 0 where
 -- a carry-out of an own strong request that is not committed gets a tentative reply
 pub record TentativeReply (r : Replica) (x : Request) (xs : List Request) : Type 0 where
   pub given : r .book .execution .todo ≡ x ∷ xs → refusal (r .book) execute ≡ refused.accepted
-      → isOf (r .book .plan .own) x ≡ true → x .strong ≡ true → isCommitted (r .book .plan) (x .number) ≡ false
+      → isOf (r .book .plan .own) x ≡ true → x .asked .strong ≡ true → isCommitted (r .book .plan) (x .number) ≡ false
       → answer r execute .mark ≡ tentativeMark
 
 -- x is an own strong request and does not await a reply
 abbrev pub strongUnawaited : ℕ → Context → Request → Bool
-strongUnawaited own awaiting x = isOf own x && x .strong && not (member awaiting (x .number))
+strongUnawaited own awaiting x = isOf own x && x .asked .strong && not (member awaiting (x .number))
 
 -- what holds of the numbers awaiting a reply, in every replica that fresh and the calls lead to
 pub record SoundAwaiting (r : Replica) : Type 0 where

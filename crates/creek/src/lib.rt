@@ -4,14 +4,13 @@ pub mod mark;
 
 use numbers::Clock;
 use numbers::Number;
-use request::Operation;
 use request::Request;
+use request::asked::Asked;
 
-// What a caller asks for when a request is made.
+// What a caller asks for when a request is made, with the clock reading.
 #[repr(C)]
 pub struct Invocation {
-    pub operation: Operation,
-    pub strong: bool,
+    pub asked: Asked,
     pub clock: Clock,
 }
 

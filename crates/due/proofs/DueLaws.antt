@@ -30,7 +30,7 @@ use Rattle.creek.specs.Showing.{owedShown}
 use Rattle.counters.specs.declared.Counters.{Counters}
 use Rattle.steps.specs.declared.DueReply.{DueReply}
 use Rattle.replica.specs.State.{State, Called}
-use Rattle.store.specs.Requests.{operationIn, requestAt}
+use Rattle.store.specs.Requests.{askedIn, requestAt}
 use Rattle.replica.specs.Model.{orderOf, planOf, bookOf, model, savedAt, Inv, Kept}
 use Rattle.due.specs.Due.{DueOutcome, noReply, replyIn, isAwaited, dueReplies, mostReplies, padded, repliesOwed, RunDue, SameJob, RolledBack, ExecutedAll}
 use Rattle.replica.proofs.States.{undoneState, executedState}
@@ -99,7 +99,7 @@ pub rolling-start : (p : State) → Inv p → Rolling p p
 rolling-start p inv = record { invariant = inv; executed = refl; ordered = refl; job = record { state = refl; replies = refl } }
 
 pub rolling-on : (p q : State) → Rolling p q → q .executed < q .stacked → (registers : List ℕ) (counters : Counters)
-    → registers ≡ restored (operationIn (getD (q .operations) (topSlot q) 0)) (savedAt (q .saved) (q .stacked - 1)) (q .registers)
+    → registers ≡ restored (askedIn (getD (q .operations) (topSlot q) 0) .operation) (savedAt (q .saved) (q .stacked - 1)) (q .registers)
     → counters ≡ undosCounted (q .counters) 1 → Rolling p (undoneState q registers counters)
 rolling-on p q h below registers counters back counted =
     let kept = undo-kept q (h .invariant) below registers back counters _ counted refl in

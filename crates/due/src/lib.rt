@@ -1,8 +1,5 @@
 // All due steps in one call: what is to be rolled back is undone, then what is to do is executed.
 use creek::mark::NOBODY;
-use numbers::EventNo;
-use numbers::Number;
-use numbers::PanelNo;
 use replica::Core;
 use steps::DueReply;
 use store::requests;
@@ -103,8 +100,8 @@ fn execute_all<'a>(
     let mut at = core.executed;
     while at < ordered {
         let slot = order[at];
-        let operation = requests::operation_at(operations, slot as usize);
-        let strong = requests::strong_at(operations, slot as usize);
+        let asked = requests::asked_at(operations, slot as usize);
+        let operation = asked.operation;
         let before = registers::save(registers, operation);
         let word = registers::saved_word(before);
         let response = registers::execute(registers, operation);
@@ -116,7 +113,7 @@ fn execute_all<'a>(
             responses,
             at,
             slot,
-            strong,
+            asked.strong,
             word,
             response,
         );
@@ -144,10 +141,7 @@ fn no_reply() -> DueReply
     ensures { λ r. ⌜ r ≡ noReply ⌝ }
 {
     DueReply {
-        number: Number {
-            panel: PanelNo(0),
-            event: EventNo(0),
-        },
+        number: numbers::none(),
         response: 0,
         mark: NOBODY,
     }

@@ -1,13 +1,12 @@
 -- All due steps as an entry: their count is small, and what running them does; then an entry by its tag.
 use Prim.Native.Nat.{ℕ, _+_, _*_, _≤_}
-use mathlib.Core.Path.{_≡_, ap}
+use mathlib.Core.Path.{_≡_}
 use mathlib.Core.List.{List}
 use native.Mathlib.Omega.{arith}
 use lib.ListN.{getD}
 use borrow.Author.Tests.{eq-eqb, ne-eqb}
 use Rattle.numbers.specs.Numbers.{noNumber}
-use Rattle.request.specs.Refusal as refused
-use Rattle.creek.specs.Replies.{noMark, noRequest}
+use Rattle.creek.specs.Replies.{noMark, reply}
 use Rattle.creek.specs.Sound.{mostRequests}
 use Rattle.creek.specs.Showing.{owedShown}
 use Rattle.replica.specs.State.{State, Called}
@@ -15,8 +14,6 @@ use Rattle.due.specs.Due.{DueOutcome}
 use Rattle.replica.specs.Model.{Inv, model, Kept}
 use Rattle.due.specs.Due.{RunDue}
 use Rattle.replica.proofs.ShowingLaws.{owed-are}
-use Rattle.wire.specs.declared.Message.{Message}
-use Rattle.wire.specs.Message.{noMessage, bare}
 use Rattle.encoding.specs.Encoding.{allDueTag, callAt, one, allDue, entryAt, after, answerTo, Done}
 
 -- at most two steps are owed for each request
@@ -26,28 +23,11 @@ owed-few p inv = omega (arith, owed-are p inv, inv .counts .ordered, inv .counts
 pub steps-few : (p : State) (r : DueOutcome) → Inv p → RunDue p r → r .undos + r .executions ≤ 2 * mostRequests
 steps-few p r inv ran = omega (arith, owed-few p inv, ran .undos, ran .executions)
 
-nothing-is : (m : Message) → m ≡ noMessage → m .request ≡ noRequest
-unfolding noMessage bare
-nothing-is m e = ap (λ (x : Message). x .request) e
-
 -- all due steps, from what running them gives
-pub done-all-due : (p : State) (r : DueOutcome) → RunDue p r → (m : Message) → m ≡ noMessage
-    → Done p allDue (record {
-      answer = record {
-        refusal = refused.accepted;
-        request = m .request;
-        number = noNumber;
-        response = r .undos + r .executions;
-        mark = noMark;
-      };
-      state = r .state;
-    })
+pub done-all-due : (p : State) (r : DueOutcome) → RunDue p r
+    → Done p allDue (record { answer = reply noNumber (r .undos + r .executions) noMark; state = r .state })
 unfolding after answerTo
-done-all-due p r ran m none = record {
-  answer = rw (nothing-is m none, ran .undos, ran .executions);
-  state = ran .state;
-  invariant = ran .invariant;
-}
+done-all-due p r ran = record { answer = rw (ran .undos, ran .executions); state = ran .state; invariant = ran .invariant }
 
 -- ---- an entry, by its tag
 

@@ -5,6 +5,7 @@ use mathlib.Core.List.{List, [], _∷_, _++_}
 use lib.ListN.{replicate}
 use Rattle.numbers.specs.Numbers.{sameNumber, badNumber}
 use Rattle.request.specs.Operations.{badOperation}
+use Rattle.request.specs.Asked.{badAsked}
 use Rattle.request.specs.Order.{before}
 use Rattle.sets.specs.Sets.{allZero, isEmpty, bit, member, join, leave}
 use Rattle.registers.specs.Effect.{offBoard, added, claimed, amountMoved, moved, exec, response}
@@ -16,7 +17,7 @@ use Rattle.creek.specs.Plan.{lastEvent, lastClock, entered, atLeast, made, invo
 use Rattle.creek.specs.Replies.{executionMark, executionReply, acceptedAnswer, answerOf, acceptedAwaiting}
 use Rattle.wire.specs.Integers.{integerAt, integerBytes}
 use Rattle.wire.specs.Layout.{layout, size, decode, encode, sizeOf, fieldsAt}
-use Rattle.wire.specs.Message.{kindOf, contents, fieldsOf, bytesOf, messageFrom, weakWithContext, bare, held, noMessage}
+use Rattle.wire.specs.Message.{kindOf, contents, fieldsOf, bytesOf, messageFrom, weakWithContext, held, noMessage}
 use Rattle.wire.specs.Reader.{answered, lengthAt, kindAt, spareAt, refusalAs, readAs, readAt}
 use Rattle.intake.specs.Intake.{callOf}
 use Rattle.encoding.specs.Encoding.{messageAt, invocationOf, callAt, entryAt, entriesFrom, callCount, entriesOf}
@@ -40,11 +41,11 @@ zeros = 18 ∷ 0 ∷ 1 ∷ 0 ∷ replicate 78 0
 
 pub made-and-carried-out : answersBytes (freshOf asked) (entriesOf asked)
     ≡ (0 ∷ 0 ∷ 0 ∷ 0 ∷ 0 ∷ 0 ∷ 0 ∷ 0 ∷ spread ++ replicate 64 0) ++ 0 ∷ 1 ∷ 0 ∷ 1 ∷ 7 ∷ 0 ∷ 0 ∷ 0 ∷ zeros
-unfolding sameNumber badNumber badOperation before allZero isEmpty bit member join leave offBoard added claimed amountMoved
+unfolding sameNumber badNumber badOperation badAsked before allZero isEmpty bit member join leave offBoard added claimed amountMoved
     moved exec response replayOn replay refusal accepted badShop fresh accept step registers adjusted executedNext
     executeRefusal lastEvent lastClock entered atLeast made invokeRefusal executionMark executionReply acceptedAnswer answerOf
     acceptedAwaiting integerAt integerBytes layout size decode encode sizeOf fieldsAt kindOf contents fieldsOf bytesOf
-    messageFrom weakWithContext bare held noMessage answered lengthAt kindAt spareAt refusalAs readAs readAt messageAt
+    messageFrom weakWithContext held noMessage answered lengthAt kindAt spareAt refusalAs readAs readAt messageAt
     invocationOf callOf callAt entryAt entriesFrom callCount entriesOf after answerTo messageBytes headBytes answerBytes answersBytes
 made-and-carried-out = refl
 

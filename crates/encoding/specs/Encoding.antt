@@ -67,9 +67,9 @@ allDueTag = 4
 unfoldable pub messageAt : List ℕ → ℕ → Message
 messageAt s at = answered (readAt s at) .message
 
--- the invocation that a request stands for: its operation, strength and clock reading
+-- the invocation that a request stands for: what it asks for and its clock reading
 unfoldable pub invocationOf : Request → Invocation
-invocationOf x = record { operation = x .operation; strong = x .strong; clock = x .clock }
+invocationOf x = record { asked = x .asked; clock = x .clock }
 
 -- the call of a message behind that tag: make, or the bus message's own
 abbrev pub messageCall : ℕ → Message → Call

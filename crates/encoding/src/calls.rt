@@ -46,15 +46,11 @@ pub fn call_count(s: &[u8]) -> usize
     (s.len() - CALLS_AT) / CALL_SIZE
 }
 
-// The invocation with the operation, strength and clock reading of x.
+// The invocation with what x asks for and its clock reading.
 pub fn invocation_of(x: Request) -> Invocation
     ensures { λ i. ⌜ i ≡ invocationOf x ⌝ }
 {
-    let operation = x.operation;
+    let asked = x.asked;
     let clock = x.clock;
-    Invocation {
-        operation,
-        strong: x.strong,
-        clock,
-    }
+    Invocation { asked, clock }
 }

@@ -6,7 +6,7 @@ use mathlib.Core.Bool.{Bool, true, false, cond}
 use mathlib.Core.Option.{Option, none, some}
 use Rattle.request.specs.declared.Request.{Request}
 use Rattle.numbers.specs.Numbers.{mostPanels, GoodNumber, badNumber, slotOf, noNumber}
-use Rattle.request.specs.Operations.{badOperation}
+use Rattle.request.specs.Asked.{badAsked}
 use Rattle.sets.specs.Sets.{member}
 use Rattle.request.specs.Request.{sameRequest, badContext}
 use Rattle.request.specs.Refusal as refused
@@ -44,7 +44,7 @@ module _ (p : State) (x : Request) (inv : Inv p) where
   refused-unheld h =
       met-first (badNumber (p .panels) (x .number)) _ _ _ h (λ h.
       met-first (isOf (p .own .0) x) _ _ _ h (λ h.
-      met-first (badOperation (x .operation)) _ _ _ h (λ h.
+      met-first (badAsked (x .asked)) _ _ _ h (λ h.
       met-first (badContext (p .panels) x) _ _ _ h (λ h.
       absurd (h refl)))))
 
@@ -53,9 +53,9 @@ module _ (p : State) (x : Request) (inv : Inv p) where
   by-held h =
       let number = passed (badNumber (p .panels) (x .number)) refused.badNumber _ tt h in
       let own = passed (isOf (p .own .0) x) refused.ownEcho _ tt (number .1) in
-      let operation = passed (badOperation (x .operation)) refused.badOperation _ tt (own .1) in
-      let context = passed (badContext (p .panels) x) refused.badContext refused.accepted tt (operation .1) in
-      rw (number .0, own .0, operation .0, context .0)
+      let asked = passed (badAsked (x .asked)) refused.badOperation _ tt (own .1) in
+      let context = passed (badContext (p .panels) x) refused.badContext refused.accepted tt (asked .1) in
+      rw (number .0, own .0, asked .0, context .0)
 
   pub judged-good : judged (p .panels) (p .own .0) x ≡ refused.accepted → GoodNumber mostPanels (x .number)
   unfolding judged deliverRefusal

@@ -185,7 +185,7 @@ module _ (p : State) (x : Request) (inv : Inv p) (new : Enters p x) where
   module _ (clocks operations contexts : List ℕ) (stored : Stored (p .clocks) (p .operations) (p .contexts) (slot x) x clocks operations contexts)
       (new-order : List ℕ) (ins : Inserted (p .order) (p .ordered) (placeOf p x) (slot x) new-order)
       (held known awaiting : List ℕ) (joined : setOf held ≡ join (p .held) (x .number))
-      (knows : setOf known ≡ knownWith (p .known) (x .strong) (x .number)) (events : ℕ) (clock : Clock) where
+      (knows : setOf known ≡ knownWith (p .known) (x .asked .strong) (x .number)) (events : ℕ) (clock : Clock) where
     abbrev at-after : ℕ → Request
     at-after = requestAt clocks operations contexts
 
@@ -381,7 +381,7 @@ module _ (p : State) (x : Request) (inv : Inv p) (new : Enters p x) where
       pub entered-by : {clocks operations contexts held known : List ℕ} {k : ℕ}
           → Stored (p .clocks) (p .operations) (p .contexts) s x clocks operations contexts
           → setOf held ≡ join (p .held) (x .number)
-          → setOf known ≡ knownWith (p .known) (x .strong) (x .number)
+          → setOf known ≡ knownWith (p .known) (x .asked .strong) (x .number)
           → k ≡ same + commonStart eqb (slice same (p .executed) (p .stack)) (slice same (p .ordered + 1) order)
           → (awaiting : List ℕ) (events : ℕ) (clock : Clock)
           → Entered p x (setOf awaiting) events clock (enlarged p held known awaiting clocks operations contexts order k events clock)

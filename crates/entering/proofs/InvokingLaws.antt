@@ -15,7 +15,7 @@ use Rattle.numbers.specs.declared.Clock.{Clock}
 use Rattle.numbers.specs.declared.Number.{Number}
 use Rattle.request.specs.declared.Request.{Request}
 use Rattle.numbers.specs.Numbers.{eventNo, clockReading, sameNumber, mostPanels, mostEvents, GoodNumber, slotOf, numberOf, noNumber}
-use Rattle.request.specs.Operations.{badOperation}
+use Rattle.request.specs.Asked.{badAsked}
 use Rattle.sets.specs.Sets.{emptySet, member, join, leave}
 use Rattle.request.specs.Order.{before}
 use Rattle.request.specs.Refusal as refused
@@ -35,7 +35,7 @@ use Rattle.creek.proofs.LookupLaws.{lastEvent-made, lastClock-made}
 use Rattle.replica.specs.State.{State}
 use Rattle.store.specs.Requests.{requestAt}
 use Rattle.replica.specs.Model.{orderSlots, planOf, bookOf, model, Inv, Kept}
-use Rattle.entering.specs.Entering.{Asked, contextFor, requestFor, Enters, OwnSoFar, Entered}
+use Rattle.entering.specs.Entering.{InvokeRefused, contextFor, requestFor, Enters, OwnSoFar, Entered}
 use Rattle.replica.proofs.ModelLaws.{plan-sound}
 use Rattle.replica.proofs.RequestLaws.{tentativeSlots}
 use Rattle.entering.proofs.EnteringStates.{new-enters}
@@ -83,7 +83,7 @@ module _ (p : State) (inv : Inv p) (i : Invocation) (good : GoodNumber mostPanel
 
 -- the invocation with that reading
 abbrev pub withClock : Invocation → Clock → Invocation
-withClock i clock = record { operation = i .operation; strong = i .strong; clock = clock }
+withClock i clock = record { asked = i .asked; clock = clock }
 
 module _ (last : Clock) (i : Invocation) where
   pub as-asked : last .0 ≤ i .clock .0 → i ≡ atLeast (last .0) i
@@ -97,24 +97,24 @@ module _ (last : Clock) (i : Invocation) where
 -- ---- the refusals, test by test
 
 module _ (events : ℕ) (i : Invocation) where
-  pub asked-operation : badOperation (i .operation) ≡ true → Asked events i refused.badOperation
+  pub refused-bad : badAsked (i .asked) ≡ true → InvokeRefused events i refused.badOperation
   unfolding invokeRefusal
-  asked-operation bad = record { word = λ a e. rw bad }
+  refused-bad bad = record { word = λ a e. rw bad }
 
-  module _ (good : badOperation (i .operation) ≡ false) where
-    pub asked-full : mostEvents ≤ events → Asked events i refused.shiftFull
+  module _ (good : badAsked (i .asked) ≡ false) where
+    pub refused-full : mostEvents ≤ events → InvokeRefused events i refused.shiftFull
     unfolding invokeRefusal
-    asked-full full = record { word = λ a e. rw (good, e, le-leb mostEvents events full) }
+    refused-full full = record { word = λ a e. rw (good, e, le-leb mostEvents events full) }
 
-    pub asked-passes : events < mostEvents → Asked events i refused.accepted
+    pub refused-none : events < mostEvents → InvokeRefused events i refused.accepted
     unfolding invokeRefusal
-    asked-passes left = record { word = λ a e. rw (good, e, lt-leb mostEvents events left) }
+    refused-none left = record { word = λ a e. rw (good, e, lt-leb mostEvents events left) }
 
 -- ---- refused
 
-module _ (p : State) (i : Invocation) (inv : Inv p) (w : ℕ) (asked : Asked (p .events) i w) where
+module _ (p : State) (i : Invocation) (inv : Inv p) (w : ℕ) (told : InvokeRefused (p .events) i w) where
   word-is : w ≡ invokeRefusal (planOf p) i
-  word-is = asked .word (planOf p) (sym (inv .events))
+  word-is = told .word (planOf p) (sym (inv .events))
 
   pub kept-asked : (a : Answer) → (w ≡ refused.accepted → ⊥) → a ≡ refusedWith w noNumber
       → Kept p (invoke i) (record { answer = a; state = p })
@@ -131,8 +131,8 @@ module _ (p : State) (i : Invocation) (inv : Inv p) (w : ℕ) (asked : Asked (p 
     pub events-left : p .events < mostEvents
     unfolding invokeRefusal
     events-left =
-        let operation = passed (badOperation (i .operation)) refused.badOperation _ tt taken in
-        let events = passed (leb mostEvents (lastEvent (planOf p))) refused.shiftFull refused.accepted tt (operation .1) in
+        let asked = passed (badAsked (i .asked)) refused.badOperation _ tt taken in
+        let events = passed (leb mostEvents (lastEvent (planOf p))) refused.shiftFull refused.accepted tt (asked .1) in
         omega (arith, inv .events, leb-false mostEvents (lastEvent (planOf p)) (events .0))
 
     made-enters : Enters p (made (planOf p) i)
@@ -156,15 +156,14 @@ module _ (p : State) (i : Invocation) (inv : Inv p) (w : ℕ) (asked : Asked (p 
       context-made =
           context-is
           ∙ ap (λ (t : ℕ). contextFor j (p .known) (p .clocks) t (tentativeSlots p)) (slot-is ∙ ap slotOf next-is)
-          ∙ ap (λ (c : Context). cond (j .strong) c emptySet) (sym (context-at p inv j next-good))
+          ∙ ap (λ (c : Context). cond (j .asked .strong) c emptySet) (sym (context-at p inv j next-good))
 
       with-context : asRequest p j context ≡ requestWith (planOf p) j (contextOf (planOf p) j)
       unfolding planOf
       with-context = λ k. record {
         number = next-is k;
         clock = j .clock;
-        operation = j .operation;
-        strong = j .strong;
+        asked = j .asked;
         context = context-made k;
       }
 

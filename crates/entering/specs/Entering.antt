@@ -26,22 +26,21 @@ use Rattle.replica.specs.Model.{planOf, bookOf, model, Inv, Kept}
 -- ---- what is asked of a request that is made
 
 -- w is the refusal of an invocation by a plan whose last own request had that event
-pub record Asked (events : ℕ) (i : Invocation) (w : ℕ) : Type 0 where
+pub record InvokeRefused (events : ℕ) (i : Invocation) (w : ℕ) : Type 0 where
   pub word : (a : Plan) → lastEvent a ≡ events → w ≡ invokeRefusal a i
 
 -- the context of the request asked for, in that slot, by the clock readings and the slots of the tentative requests: the known set
 -- without the later ones, where it is strong
 abbrev pub contextFor : Invocation → Context → List ℕ → ℕ → List ℕ → Context
 contextFor i known clocks slot tentative =
-    cond (i .strong) (without known (keep (comesBefore clocks (i .clock .0) slot) tentative)) emptySet
+    cond (i .asked .strong) (without known (keep (comesBefore clocks (i .clock .0) slot) tentative)) emptySet
 
 -- the request of that number that i asks for, with that context
 abbrev pub requestFor : Number → Invocation → Context → Request
 requestFor n i context = record {
   number = n;
   clock = i .clock;
-  operation = i .operation;
-  strong = i .strong;
+  asked = i .asked;
   context = context;
 }
 

@@ -9,7 +9,7 @@ use numbers::PanelNo;
 use replica::CallResult;
 use replica::Core;
 use request::Request;
-use request::operations as operation;
+use request::asked;
 use request::refusal;
 use sets::Context;
 use slots::common;
@@ -24,7 +24,7 @@ ghost use Rattle.sets.specs.Sets.{setOf};
 ghost use Rattle.slots.specs.Slots.{OrderAsks};
 ghost use Rattle.creek.specs.Plan.{knownWith, atLeast, heldRefusal};
 ghost use Rattle.creek.specs.Replies.{spread as spreadAnswer};
-ghost use Rattle.entering.specs.Entering.{Asked, contextFor, requestFor, judged, EnterAsks, EnterKept};
+ghost use Rattle.entering.specs.Entering.{InvokeRefused, contextFor, requestFor, judged, EnterAsks, EnterKept};
 ghost use Rattle.entering.specs.Entering.{DeliverAsks, DeliverKept, InvokeAsks, InvokeKept};
 
 // A request is made: it enters as one that is heard does, awaits a reply, and is to be spread to the other panels. One made with a lower
@@ -121,7 +121,7 @@ fn enter<'a>(
     let at = insertion::place(clocks, order, core.committed, n, x.clock.0, slot);
     insertion::insert_at(order, n, at, slot);
     members::join(held, number);
-    know(known, x.strong, number);
+    know(known, x.asked.strong, number);
     requests::put_request(clocks, operations, contexts, slot, x);
     // What is executed agrees with the order up to the place of x.
     let same = replica::lower(core.executed, at);
@@ -130,9 +130,9 @@ fn enter<'a>(
 
 // The refusals of an invocation after an own request of that event: bad operation, shift full.
 fn ask(events: u8, i: Invocation) -> u8
-    ensures { λ w. ⌜ Asked events i w ⌝ }
+    ensures { λ w. ⌜ InvokeRefused events i w ⌝ }
 {
-    if operation::bad(i.operation) {
+    if asked::bad(i.asked) {
         return refusal::BAD_OPERATION;
     }
     if numbers::MOST_EVENTS <= events {
@@ -148,12 +148,8 @@ fn at_least(last: Clock, i: Invocation) -> Invocation
     if last.0 <= i.clock.0 {
         return i;
     }
-    let operation = i.operation;
-    Invocation {
-        operation,
-        strong: i.strong,
-        clock: last,
-    }
+    let asked = i.asked;
+    Invocation { asked, clock: last }
 }
 
 // The context of the request that i asks for, in that slot: where it is strong, the known set without the later ones of the tentative
@@ -170,7 +166,7 @@ fn context_for<'a>(
     requires { ⌜ OrderAsks (now clocks) (now order) from to ⌝ }
     ensures { λ c. ⌜ c ≡ contextFor i known (now (clocks .entry)) slot (slice from to (now (order .entry))) ⌝ }
 {
-    if i.strong {
+    if i.asked.strong {
         return later::without_later(known, clocks, order, from, to, i.clock.0, slot);
     }
     sets::empty()
@@ -181,12 +177,11 @@ fn request_for(number: Number, i: Invocation, context: Context) -> Request
     ensures { λ x. ⌜ x ≡ requestFor number i context ⌝ }
 {
     let clock = i.clock;
-    let operation = i.operation;
+    let asked = i.asked;
     Request {
         number,
         clock,
-        operation,
-        strong: i.strong,
+        asked,
         context,
     }
 }
@@ -198,10 +193,7 @@ fn spread(x: Request) -> Answer
     Answer {
         refusal: refusal::ACCEPTED,
         request: x,
-        number: Number {
-            panel: PanelNo(0),
-            event: EventNo(0),
-        },
+        number: numbers::none(),
         response: 0,
         mark: NOBODY,
     }
@@ -267,7 +259,7 @@ fn judge(panels: u8, own: PanelNo, x: Request) -> u8
     if x.number.panel.0 == own.0 {
         return refusal::OWN_ECHO;
     }
-    if operation::bad(x.operation) {
+    if asked::bad(x.asked) {
         return refusal::BAD_OPERATION;
     }
     if request::bad_context(panels, x) {

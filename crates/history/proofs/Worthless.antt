@@ -7,6 +7,7 @@ use mathlib.Core.List.{List, [], _∷_, _++_, map}
 use lib.ListN.{length, getD, List·getD-append}
 use Rattle.numbers.specs.Numbers.{sameNumber, badNumber}
 use Rattle.request.specs.Operations.{badOperation}
+use Rattle.request.specs.Asked.{badAsked}
 use Rattle.sets.specs.Sets.{bit, member, join, leave}
 use Rattle.request.specs.Order.{before}
 use Rattle.request.specs.Refusal as refused
@@ -68,9 +69,9 @@ record Computed : Type 0 where
   second-response : getD (replying (running (twoSets []))) 1 noReply .response ≡ firstValue
 
 computed : Computed
-unfolding sameNumber badNumber badOperation bit member join leave before offBoard exec response replayOn replay lastEvent lastClock entered
-    atLeast made invokeRefusal registers adjusted executedNext executeRefusal refusal accepted noted executionMark executionReply
-    acceptedAnswer answerOf acceptedAwaiting badShop fresh accept step run registerShown answersTo dueCalls
+unfolding sameNumber badNumber badOperation badAsked bit member join leave before offBoard exec response replayOn replay lastEvent
+    lastClock entered atLeast made invokeRefusal registers adjusted executedNext executeRefusal refusal accepted noted executionMark
+    executionReply acceptedAnswer answerOf acceptedAwaiting badShop fresh accept step run registerShown answersTo dueCalls
 computed = record {
   sets-accepted = refl;
   first-accepted = refl;

@@ -1,9 +1,9 @@
-// A request's number, its parts and a clock reading, which are three types; equality of numbers, the test behind refusal 2, and a number's
-// slot, its place in a table of 512.
+// A request's number, its parts and a clock reading, which are three types; 0/0, equality of numbers, the test behind refusal 2, and a
+// number's slot, its place in a table of 512.
 //
 // Each contract gives the result by the definition of the same name in `specs/`; their laws are in `proofs/`.
 ghost use mathlib.Core.Path.{_≡_};
-ghost use Rattle.numbers.specs.Numbers.{sameNumber, badNumber, slotOf, numberOf};
+ghost use Rattle.numbers.specs.Numbers.{noNumber, sameNumber, badNumber, slotOf, numberOf};
 
 // A panel of the shop, counted from 0.
 #[repr(C)]
@@ -29,6 +29,16 @@ pub const MOST_PANELS: u8 = 8;
 
 // The most events of a panel.
 pub const MOST_EVENTS: u8 = 64;
+
+// 0/0, which stands where there is no number.
+pub fn none() -> Number
+    ensures { λ n. ⌜ n ≡ noNumber ⌝ }
+{
+    Number {
+        panel: PanelNo(0),
+        event: EventNo(0),
+    }
+}
 
 // Whether a and b are one number.
 pub fn same(a: Number, b: Number) -> bool

@@ -7,6 +7,7 @@ use numbers::Number;
 use numbers::PanelNo;
 use request::Operation;
 use request::Request;
+use request::asked::Asked;
 use sets::Context;
 ghost use mathlib.Core.Path.{_≡_};
 ghost use Prim.Native.Nat.{_+_, _≤_};
@@ -39,13 +40,15 @@ pub fn request_at(s: &[u8], at: usize, strong: bool, context: Context) -> Reques
     Request {
         number: number_at(s, at),
         clock: Clock(clock),
-        operation: Operation {
-            code: code,
-            r: r,
-            q: q,
-            amount: amount,
+        asked: Asked {
+            operation: Operation {
+                code: code,
+                r: r,
+                q: q,
+                amount: amount,
+            },
+            strong: strong,
         },
-        strong: strong,
         context: context,
     }
 }

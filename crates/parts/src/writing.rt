@@ -28,7 +28,7 @@ pub fn put_body(out: &mut [u8], r: Request)
     requires { ⌜ size weakWidths ≤ length (now out) ⌝ }
     ensures { λ _. ⌜ now (out .exit) ≡ put (now (out .entry)) (size settlementWidths) (encode bodyWidths (bodyFields r)) ⌝ }
 {
-    let o = r.operation;
+    let o = r.asked.operation;
     let clock = r.clock.0 as u64;
     let code = o.code as u64;
     let first = o.r as u64;

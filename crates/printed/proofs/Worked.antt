@@ -5,6 +5,7 @@ use mathlib.Core.List.{List, [], _∷_, _++_}
 use Rattle.text.specs.Text.{ascii, significant, decimal, restOfLine, line}
 use Rattle.numbers.specs.Numbers.{sameNumber, badNumber}
 use Rattle.request.specs.Operations.{sameOperation, badOperation}
+use Rattle.request.specs.Asked.{sameAsked, badAsked}
 use Rattle.request.specs.Order.{before}
 use Rattle.request.specs.Request.{sameRequest, badContext}
 use Rattle.sets.specs.Sets.{sameWords, sameContext, allZero, isEmpty, namesFrom, bit, member, join}
@@ -71,11 +72,11 @@ workedOutput =
     ++ ascii "register 4 6\n"
 
 pub printout-worked : printout workedInput ≡ workedOutput
-unfolding significant decimal restOfLine line sameNumber badNumber sameOperation badOperation before sameRequest badContext
-    sameWords sameContext allZero isEmpty namesFrom bit member join lackedWords difference subset offBoard added claimed exec replayOn
-    replay entered committing committingFound deliverRefusal commitRefusal registers adjusted undone undoRefusal executedNext
-    executeRefusal refusal accepted executionMark executionReply settlementReply stableReplyDue acceptedAnswer answerOf
-    acceptedAwaiting badShop fresh accept step afterDueSteps integerAt layout size decode sizeOf fieldsAt kindOf messageFrom lengthAt
-    kindAt spareAt refusalAs readAs readAt boardLine messageLine totalsLine registerLine lineUnlessZero registerLinesFrom
-    registerLines found callOf after afterAll numberIn lineOfMessage lineFor refusalIn messageLines closing printoutOf printout ascii
+unfolding significant decimal restOfLine line sameNumber badNumber sameOperation badOperation sameAsked badAsked before sameRequest
+    badContext sameWords sameContext allZero isEmpty namesFrom bit member join lackedWords difference subset offBoard added claimed exec
+    replayOn replay entered committing committingFound deliverRefusal commitRefusal registers adjusted undone undoRefusal executedNext
+    executeRefusal refusal accepted executionMark executionReply settlementReply stableReplyDue acceptedAnswer answerOf acceptedAwaiting
+    badShop fresh accept step afterDueSteps integerAt layout size decode sizeOf fieldsAt kindOf messageFrom lengthAt kindAt spareAt
+    refusalAs readAs readAt boardLine messageLine totalsLine registerLine lineUnlessZero registerLinesFrom registerLines found callOf
+    after afterAll numberIn lineOfMessage lineFor refusalIn messageLines closing printoutOf printout ascii
 printout-worked = refl

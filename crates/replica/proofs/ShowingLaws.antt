@@ -13,7 +13,7 @@ use Rattle.request.specs.declared.Request.{Request}
 use Rattle.request.specs.Operations.{lastRegister}
 use Rattle.request.specs.Refusal as refused
 use Rattle.creek.specs.Plan.{order}
-use Rattle.creek.specs.Replies.{noRequest}
+use Rattle.request.specs.Request.{noRequest}
 use Rattle.creek.specs.Showing.{registerRefusal, registerShown, requestsShown, commitsShown, owedShown}
 use Rattle.creek.specs.Showing.{placeRefusal, placeShown}
 use Rattle.replica.specs.State.{State}

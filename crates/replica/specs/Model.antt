@@ -9,6 +9,7 @@ use Rattle.numbers.specs.declared.Number.{Number}
 use Rattle.request.specs.declared.Operation.{Operation}
 use Rattle.request.specs.declared.Request.{Request}
 use Rattle.numbers.specs.Numbers.{mostPanels, numberOf}
+use Rattle.request.specs.Operations.{noOperation}
 use Rattle.sets.specs.Sets.{member}
 use Rattle.registers.specs.declared.Saved.{Saved}
 use Rattle.registers.specs.Effect.{response}
@@ -74,7 +75,7 @@ model q = record {
 
 -- the operation of the request at place k on a board
 abbrev pub operationAt : List Request → ℕ → Operation
-operationAt board k = getD (operations board) k (record { code = 0; r = 0; q = 0; amount = 0 })
+operationAt board k = getD (operations board) k noOperation
 
 -- the registers before the request at place k on a board was executed
 abbrev pub registersBefore : List Request → ℕ → List ℕ

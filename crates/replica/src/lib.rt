@@ -18,10 +18,8 @@ use creek::mark::NOBODY;
 use creek::mark::STABLE;
 use creek::mark::WEAK;
 use numbers::Clock;
-use numbers::EventNo;
 use numbers::Number;
 use numbers::PanelNo;
-use request::Operation;
 use request::Request;
 use request::refusal;
 use store::members;
@@ -30,7 +28,7 @@ ghost use Prim.Native.Nat.{min};
 ghost use Rattle.numbers.specs.Numbers.{noNumber};
 ghost use Rattle.sets.specs.Sets.{setOf};
 ghost use Rattle.creek.specs.Calls.{badShop};
-ghost use Rattle.creek.specs.Replies.{noRequest, refusedWith, reply as replyOf, done as doneOf, awaitingAfter};
+ghost use Rattle.creek.specs.Replies.{refusedWith, reply as replyOf, done as doneOf, awaitingAfter};
 ghost use Rattle.replica.specs.State.{firstCore};
 ghost use Rattle.replica.specs.Fresh.{FreshKept};
 
@@ -160,38 +158,14 @@ pub fn lower(a: usize, b: usize) -> usize
     b
 }
 
-// The request of zeros, which stands where none is to be spread.
-pub fn no_request() -> Request
-    ensures { λ x. ⌜ x ≡ noRequest ⌝ }
-{
-    Request {
-        number: Number {
-            panel: PanelNo(0),
-            event: EventNo(0),
-        },
-        clock: Clock(0),
-        operation: Operation {
-            code: 0,
-            r: 0,
-            q: 0,
-            amount: 0,
-        },
-        strong: false,
-        context: sets::empty(),
-    }
-}
-
 // The answer of a refused call that names no request.
 pub fn refused(refusal: u8) -> Answer
     ensures { λ a. ⌜ a ≡ refusedWith refusal noNumber ⌝ }
 {
     Answer {
         refusal,
-        request: no_request(),
-        number: Number {
-            panel: PanelNo(0),
-            event: EventNo(0),
-        },
+        request: request::none(),
+        number: numbers::none(),
         response: 0,
         mark: NOBODY,
     }
@@ -203,7 +177,7 @@ pub fn reply(n: Number, response: u32, mark: u8) -> Answer
 {
     Answer {
         refusal: refusal::ACCEPTED,
-        request: no_request(),
+        request: request::none(),
         number: n,
         response,
         mark,
@@ -214,11 +188,7 @@ pub fn reply(n: Number, response: u32, mark: u8) -> Answer
 pub fn done() -> Answer
     ensures { λ a. ⌜ a ≡ doneOf ⌝ }
 {
-    let none = Number {
-        panel: PanelNo(0),
-        event: EventNo(0),
-    };
-    reply(none, 0, NOBODY)
+    reply(numbers::none(), 0, NOBODY)
 }
 
 // Takes n from those who await a reply after one with that mark: weak and stable end the waiting.

@@ -2,7 +2,6 @@
 use super::Core;
 use super::PlacedRequest;
 use super::RegisterValue;
-use super::no_request;
 use counters::Counters;
 use request::operations as operation;
 use request::refusal;
@@ -83,7 +82,7 @@ pub fn at_place<'a>(
     ensures { λ r. ⌜ PlaceKept core (now (clocks .entry)) (now (operations .entry)) (now (contexts .entry)) (now (order .entry)) place r ⌝ }
 {
     if (place == 0) | (core.ordered < place) {
-        let request = no_request();
+        let request = request::none();
         return PlacedRequest {
             refusal: refusal::NOT_HERE,
             request,

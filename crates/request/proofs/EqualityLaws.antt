@@ -1,4 +1,5 @@
--- Laws of equality: two operations, contexts or requests that test as the same are equal, and each tests as the same as itself.
+-- Laws of equality: two operations, contexts, requests, or what two requests ask for, that test as the same are equal, and each tests as
+-- the same as itself.
 use Prim.Native.Nat.{ℕ}
 use mathlib.Core.Path.{_≡_, refl}
 use mathlib.Core.Bool.{true}
@@ -6,8 +7,10 @@ use lib.Dec.{eqb}
 use borrow.Author.Tests.{eqb-true, eq-eqb}
 use Rattle.request.specs.declared.Operation.{Operation}
 use Rattle.sets.specs.declared.Context.{Context}
+use Rattle.request.specs.declared.asked.Asked.{Asked}
 use Rattle.request.specs.declared.Request.{Request}
 use Rattle.request.specs.Operations.{sameOperation}
+use Rattle.request.specs.Asked.{sameAsked}
 use Rattle.sets.specs.Sets.{sameContext}
 use Rattle.request.specs.Request.{sameRequest}
 use Rattle.lists.proofs.BoolLaws.{both-true, both, beq-sound, beq-self}
@@ -33,6 +36,18 @@ pub sameOperation-self : (a : Operation) → sameOperation a a ≡ true
 unfolding sameOperation
 sameOperation-self a = both (both (both (self (a .code)) (self (a .r))) (self (a .q))) (self (a .amount))
 
+pub sameAsked-sound : (a b : Asked) → sameAsked a b ≡ true → a ≡ b
+unfolding sameAsked
+sameAsked-sound a b e =
+    let h = both-true _ _ e in
+    let operation = sameOperation-sound (a .operation) (b .operation) (h .0) in
+    let strong = beq-sound (a .strong) (b .strong) (h .1) in
+    λ i. record { operation = operation i; strong = strong i }
+
+pub sameAsked-self : (a : Asked) → sameAsked a a ≡ true
+unfolding sameAsked
+sameAsked-self a = both (sameOperation-self (a .operation)) (beq-self (a .strong))
+
 pub sameContext-sound : (a b : Context) → sameContext a b ≡ true → a ≡ b
 unfolding sameContext
 sameContext-sound a b e =
@@ -49,16 +64,13 @@ sameRequest-sound a b e =
     let h = both-true _ _ e in
     let k = both-true _ _ (h .0) in
     let l = both-true _ _ (k .0) in
-    let m = both-true _ _ (l .0) in
-    let number = sameNumber-sound (a .number) (b .number) (m .0) in
-    let clock = eqb-true (a .clock .0) (b .clock .0) (m .1) in
-    let operation = sameOperation-sound (a .operation) (b .operation) (l .1) in
-    let strong = beq-sound (a .strong) (b .strong) (k .1) in
+    let number = sameNumber-sound (a .number) (b .number) (l .0) in
+    let clock = eqb-true (a .clock .0) (b .clock .0) (l .1) in
+    let asked = sameAsked-sound (a .asked) (b .asked) (k .1) in
     let context = sameContext-sound (a .context) (b .context) (h .1) in
-    λ i. record { number = number i; clock = record { 0 = clock i }; operation = operation i; strong = strong i; context = context i }
+    λ i. record { number = number i; clock = record { 0 = clock i }; asked = asked i; context = context i }
 
 pub sameRequest-self : (a : Request) → sameRequest a a ≡ true
 unfolding sameRequest
 sameRequest-self a =
-    both (both (both (both (sameNumber-self (a .number)) (self (a .clock .0))) (sameOperation-self (a .operation))) (beq-self (a .strong)))
-    (sameContext-self (a .context))
+    both (both (both (sameNumber-self (a .number)) (self (a .clock .0))) (sameAsked-self (a .asked))) (sameContext-self (a .context))

@@ -1,4 +1,4 @@
--- Operations: their codes, equality, and what makes one bad. What they do is in the crate `registers`.
+-- Operations: their codes, the one of zeros, equality, and what makes one bad. What they do is in the crate `registers`.
 use Prim.Native.Nat.{ℕ, _+_, _-_}
 use mathlib.Core.Bool.{Bool, not, _&&_, _||_}
 use lib.Dec.{ltb, leb, eqb}
@@ -43,11 +43,15 @@ mostClaimed = 4
 abbrev pub span : Operation → ℕ
 span o = o .q + 1 - o .r
 
+-- zeros, where there is no operation
+abbrev pub noOperation : Operation
+noOperation = record { code = 0; r = 0; q = 0; amount = 0 }
+
 -- all fields are equal
 unfoldable pub sameOperation : Operation → Operation → Bool
 sameOperation a b = eqb (a .code) (b .code) && eqb (a .r) (b .r) && eqb (a .q) (b .q) && eqb (a .amount) (b .amount)
 
--- bad operation (refusal 3): a code outside 1 to 6; r or q over 63; q not 0 under codes 1 to 4; an amount not 0 under read;
+-- a bad operation: a code outside 1 to 6; r or q over 63; q not 0 under codes 1 to 4; an amount not 0 under read;
 -- amount 0 under claim; r equal to q under move; r above q, more than four registers or amount 0 under a claim of registers together
 unfoldable pub badOperation : Operation → Bool
 badOperation o =

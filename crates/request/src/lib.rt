@@ -1,17 +1,20 @@
 // A request and its parts, no field of which is wider than its field in a bus message.
 //
-// Here are the types and what concerns a whole request: equality, and the test behind refusal 21. Operations are in `operations`, clock
-// order in `order`, the refusal numbers in `refusal`; numbers and sets of numbers are crates of their own.
+// Here are the types and what concerns a whole request: zeros, equality, and the test behind refusal 21. What a request asks for is in
+// `asked`, operations in `operations`, clock order in `order`, the refusal numbers in `refusal`; numbers and sets of numbers are crates of
+// their own.
 // Each contract gives the result by the definition of the same name in `specs/`; their laws are in `proofs/`.
+pub mod asked;
 pub mod operations;
 pub mod order;
 pub mod refusal;
 
+use asked::Asked;
 use numbers::Clock;
 use numbers::Number;
 use sets::Context;
 ghost use mathlib.Core.Path.{_≡_};
-ghost use Rattle.request.specs.Request.{sameRequest, badContext};
+ghost use Rattle.request.specs.Request.{bareRequest, noRequest, sameRequest, badContext};
 
 // An operation on register r; under a move, from register r to register q; under a claim of registers together, on r to q.
 #[repr(C)]
@@ -22,14 +25,32 @@ pub struct Operation {
     pub amount: u32,
 }
 
-// A request; one that is not strong is weak.
+// A request.
 #[repr(C)]
 pub struct Request {
     pub number: Number,
     pub clock: Clock,
-    pub operation: Operation,
-    pub strong: bool,
+    pub asked: Asked,
     pub context: Context,
+}
+
+// The request of zeros, which stands where there is none.
+pub fn none() -> Request
+    ensures { λ x. ⌜ x ≡ noRequest ⌝ }
+{
+    bare(numbers::none())
+}
+
+// A request of which only the number stands for something, and zeros elsewhere.
+pub fn bare(n: Number) -> Request
+    ensures { λ x. ⌜ x ≡ bareRequest n ⌝ }
+{
+    Request {
+        number: n,
+        clock: Clock(0),
+        asked: asked::none(),
+        context: sets::empty(),
+    }
 }
 
 // Whether all fields of a and b are equal.
@@ -37,9 +58,9 @@ pub fn same(a: Request, b: Request) -> bool
     ensures { λ r. ⌜ r ≡ sameRequest a b ⌝ }
 {
     let numbers = numbers::same(a.number, b.number);
-    let operations = operations::same(a.operation, b.operation);
+    let asked = asked::same(a.asked, b.asked);
     let contexts = sets::same(a.context, b.context);
-    numbers & (a.clock.0 == b.clock.0) & operations & (a.strong == b.strong) & contexts
+    numbers & (a.clock.0 == b.clock.0) & asked & contexts
 }
 
 // The test behind refusal 21 in a shop of `panels` panels.
@@ -49,5 +70,5 @@ pub fn bad_context(panels: u8, x: Request) -> bool
     let empty = sets::is_empty(x.context);
     let itself = sets::member(x.context, x.number);
     let outside = sets::names_from(x.context, panels);
-    (!x.strong & !empty) | itself | outside
+    (!x.asked.strong & !empty) | itself | outside
 }

@@ -1,7 +1,7 @@
-// Operations: their codes, equality, and the test behind refusal 3.
+// Operations: their codes, the one of zeros, equality, and what makes one bad.
 use super::Operation;
 ghost use mathlib.Core.Path.{_≡_};
-ghost use Rattle.request.specs.Operations.{span, sameOperation, badOperation};
+ghost use Rattle.request.specs.Operations.{noOperation, span, sameOperation, badOperation};
 
 pub const READ: u8 = 1;
 
@@ -38,6 +38,18 @@ fn span(o: Operation) -> usize
     (o.q - o.r) as usize + 1
 }
 
+// The operation of zeros, which stands where there is none.
+pub fn none() -> Operation
+    ensures { λ o. ⌜ o ≡ noOperation ⌝ }
+{
+    Operation {
+        code: 0,
+        r: 0,
+        q: 0,
+        amount: 0,
+    }
+}
+
 // Whether all fields of a and b are equal.
 pub fn same(a: Operation, b: Operation) -> bool
     ensures { λ r. ⌜ r ≡ sameOperation a b ⌝ }
@@ -45,7 +57,7 @@ pub fn same(a: Operation, b: Operation) -> bool
     (a.code == b.code) & (a.r == b.r) & (a.q == b.q) & (a.amount == b.amount)
 }
 
-// The test behind refusal 3.
+// Whether o is bad.
 pub fn bad(o: Operation) -> bool
     ensures { λ r. ⌜ r ≡ badOperation o ⌝ }
 {

@@ -112,10 +112,7 @@ pub fn lowest(s: Context) -> Number
         }
         panel += 1;
     }
-    Number {
-        panel: PanelNo(0),
-        event: EventNo(0),
-    }
+    numbers::none()
 }
 
 // The lowest number that s has and t lacks; 0/0 where there is none.

@@ -37,10 +37,10 @@ use Rattle.settling.proofs.SettlingPlanLaws.{committed-then, tentative-
 -- ---- a request in the middle of a board
 
 module _ (front : List Request) (x : Request) (rest : List Request) (k : ℕ) (place : length front ≡ k) where
-  operation-there : operationAt (front ++ x ∷ rest) k ≡ x .operation
+  operation-there : operationAt (front ++ x ∷ rest) k ≡ x .asked .operation
   operation-there =
-      rw (map-append (λ y. y .operation) front (x ∷ rest))
-      (getD-at (operations front) (x .operation) (operations rest) _ k (length-map front (λ y. y .operation) ∙ place))
+      rw (map-append (λ y. y .asked .operation) front (x ∷ rest))
+      (getD-at (operations front) (x .asked .operation) (operations rest) _ k (length-map front (λ y. y .asked .operation) ∙ place))
 
   registers-there : registersBefore (front ++ x ∷ rest) k ≡ replay (operations front)
   registers-there = ap (λ (l : List Request). replay (operations l)) (take-at front (x ∷ rest) k place)

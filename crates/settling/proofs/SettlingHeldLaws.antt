@@ -19,7 +19,7 @@ use Rattle.creek.specs.Plan.{Plan, hasNumber, held, isCommitted}
 use Rattle.creek.specs.Sound.{unknown, knownAgainstStrength, SoundPlan}
 use Rattle.creek.proofs.HeldLaws.{widened}
 use Rattle.replica.specs.State.{State}
-use Rattle.store.specs.Requests.{strongIn, contextAt as contextIn, requestAt}
+use Rattle.store.specs.Requests.{askedIn, contextAt as contextIn, requestAt}
 use Rattle.replica.specs.Model.{planOf, bookOf, model, Inv}
 use Rattle.replica.proofs.RequestLaws.{held-some}
 
@@ -32,7 +32,7 @@ abbrev pub numberAt : State → ℕ → Number
 numberAt p s = keptAt p s .number
 
 abbrev pub strongAt : State → ℕ → Bool
-strongAt p s = strongIn (getD (p .operations) s 0)
+strongAt p s = askedIn (getD (p .operations) s 0) .strong
 
 abbrev pub contextAt : State → ℕ → Context
 contextAt p s = contextIn (p .contexts) s
@@ -85,7 +85,7 @@ module _ (a : Plan) (sound : SoundPlan a) (n : Number) where
             count-weaker (hasNumber n) (unknown (a .known)) (lost f) (a .committed),
           ))
 
-  module _ (x : Request) (here : held a n ≡ some x) (strong : x .strong ≡ true) where
+  module _ (x : Request) (here : held a n ≡ some x) (strong : x .asked .strong ≡ true) where
     -- one that is not committed is tentative
     pub found-tentative : isCommitted a n ≡ false → find (hasNumber n) (a .tentative) ≡ some x
     found-tentative e =

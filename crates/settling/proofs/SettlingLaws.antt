@@ -50,7 +50,7 @@ commits-fit p inv =
     omega (
       arith,
       inv .sound .commits-strong,
-      count-most (λ (x : Request). x .strong) (a .committed),
+      count-most (λ (x : Request). x .asked .strong) (a .committed),
       length-append (a .committed) (a .tentative),
       inv .sound .few,
     )

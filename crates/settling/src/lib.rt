@@ -2,9 +2,7 @@
 use creek::Answer;
 use creek::mark::NOBODY;
 use creek::mark::STABLE;
-use numbers::EventNo;
 use numbers::Number;
-use numbers::PanelNo;
 use replica::CallResult;
 use replica::Core;
 use request::refusal;
@@ -44,10 +42,10 @@ pub fn commit<'a>(
         return CallResult { core, answer };
     }
     let slot = numbers::slot_of(n);
-    let strong = requests::strong_at(operations, slot as usize);
+    let asked = requests::asked_at(operations, slot as usize);
     let context = requests::context_at(contexts, slot as usize);
     let knows = *known;
-    let answer = held_answer(strong, context, Context { words: knows }, n);
+    let answer = held_answer(asked.strong, context, Context { words: knows }, n);
     if answer.refusal != refusal::ACCEPTED {
         return CallResult { core, answer };
     }
@@ -113,7 +111,7 @@ fn waiting(missing: Number) -> Answer
 {
     Answer {
         refusal: refusal::WAITS,
-        request: replica::no_request(),
+        request: request::none(),
         number: missing,
         response: 0,
         mark: NOBODY,
@@ -124,10 +122,7 @@ fn waiting(missing: Number) -> Answer
 fn settled_answer(due: bool, response: u32) -> Answer
     ensures { λ a. ⌜ a ≡ settledAnswer due response ⌝ }
 {
-    let none = Number {
-        panel: PanelNo(0),
-        event: EventNo(0),
-    };
+    let none = numbers::none();
     if due {
         return replica::reply(none, response, STABLE);
     }

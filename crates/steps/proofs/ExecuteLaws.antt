@@ -14,6 +14,7 @@ use Rattle.lists.proofs.AllLaws.{all-append}
 use Rattle.sets.specs.declared.Context.{Context}
 use Rattle.numbers.specs.declared.Number.{Number}
 use Rattle.request.specs.declared.Operation.{Operation}
+use Rattle.request.specs.declared.asked.Asked.{Asked}
 use Rattle.request.specs.declared.Request.{Request}
 use Rattle.numbers.specs.Numbers.{numberOf}
 use Rattle.sets.specs.Sets.{setOf, member}
@@ -34,7 +35,7 @@ use Rattle.creek.proofs.AwaitingLaws.{awaiting-length, awaited-before}
 use Rattle.creek.proofs.StackLaws.{stacked-executed}
 use Rattle.counters.specs.declared.Counters.{Counters}
 use Rattle.replica.specs.State.{State}
-use Rattle.store.specs.Requests.{operationIn, strongIn, requestAt}
+use Rattle.store.specs.Requests.{askedIn, requestAt}
 use Rattle.replica.specs.Model.{requestsAt, boardSlots, orderOf, boardOf, planOf, bookOf, model, Inv, Kept}
 use Rattle.replica.proofs.States.{executedState}
 use Rattle.replica.proofs.KeptLaws.{kept-accepted}
@@ -42,15 +43,15 @@ use Rattle.replica.proofs.ModelLaws.{registers-are, requestOf, nextSlot, length
 use Rattle.replica.proofs.LogLaws.{log-longer}
 use Rattle.lists.proofs.StartLaws.{passes-below}
 
--- the word of the request that is executed next, its operation and whether it is strong
-abbrev nextWord : State → ℕ
-nextWord p = getD (p .operations) (nextSlot p) 0
+-- what the request that is executed next asks for, its operation and whether it is strong
+abbrev pub nextAsked : State → Asked
+nextAsked p = askedIn (getD (p .operations) (nextSlot p) 0)
 
 abbrev pub nextOperation : State → Operation
-nextOperation p = operationIn (nextWord p)
+nextOperation p = nextAsked p .operation
 
 abbrev pub nextStrong : State → Bool
-nextStrong p = strongIn (nextWord p)
+nextStrong p = nextAsked p .strong
 
 -- the mark of its reply, by its place
 abbrev pub nextMark : State → ℕ

@@ -8,13 +8,13 @@ use lib.ListN.{getD}
 use Rattle.counters.specs.declared.Counters.{Counters}
 use Rattle.counters.specs.Counted.{undosCounted, executionsCounted}
 use Rattle.numbers.specs.Numbers.{noNumber, numberOf}
-use Rattle.request.specs.declared.Operation.{Operation}
+use Rattle.request.specs.declared.asked.Asked.{Asked}
 use Rattle.request.specs.Refusal as refused
 use Rattle.registers.specs.declared.Saved.{Saved}
 use Rattle.registers.specs.Effect.{Executed}
 use Rattle.registers.specs.Rollback.{savedOf, savedIn, SavedAs}
 use Rattle.slots.specs.Slots.{mostSlots, IsSlot}
-use Rattle.store.specs.Requests.{operationIn, strongIn}
+use Rattle.store.specs.Requests.{askedIn}
 use Rattle.creek.specs.declared.Answer.{Answer}
 use Rattle.creek.specs.Book.{undo, execute, refusal}
 use Rattle.creek.specs.Replies.{noMark, refusedWith, reply, namedByRefusal}
@@ -79,34 +79,38 @@ pub record NextAsks (order : List ℕ) (at : ℕ) : Type 0 where
   pub place : at < mostSlots
   pub slot : IsSlot (getD order at 0)
 
+-- what the request at place `at` of the order asks for
+abbrev pub askedNext : List ℕ → List ℕ → ℕ → Asked
+askedNext operations order at = askedIn (getD operations (getD order at 0) 0)
+
 -- the request at place `at` of the order, of which so many are committed, was executed and put on the board there, with that reply
 pub record Next (committed : ℕ) (awaiting operations order stack registers saved responses : List ℕ) (at : ℕ)
     (awaiting′ stack′ registers′ saved′ responses′ : List ℕ) (r : DueReply) : Type 0 where
   pub word : ℕ
-  pub restores : savedIn word ≡ savedOf (operationIn (getD operations (getD order at 0) 0)) registers
-  pub done : Executed (operationIn (getD operations (getD order at 0) 0)) registers registers′ (r .response)
-  pub put : PutOn committed awaiting stack saved responses at (getD order at 0) (strongIn (getD operations (getD order at 0) 0)) word (r .response)
+  pub restores : savedIn word ≡ savedOf (askedNext operations order at .operation) registers
+  pub done : Executed (askedNext operations order at .operation) registers registers′ (r .response)
+  pub put : PutOn committed awaiting stack saved responses at (getD order at 0) (askedNext operations order at .strong) word (r .response)
       awaiting′ stack′ saved′ responses′ r
 
 -- from one equation for each value that is computed
 pub next-by : {committed at : ℕ} {awaiting operations order stack registers saved responses awaiting′ stack′ registers′ saved′ responses′ : List ℕ}
-    {o : Operation} {strong : Bool} {s : Saved} {word v : ℕ} {r : DueReply}
-    → o ≡ operationIn (getD operations (getD order at 0) 0) → strong ≡ strongIn (getD operations (getD order at 0) 0) → s ≡ savedOf o registers
-    → SavedAs s word → Executed o registers registers′ v
-    → PutOn committed awaiting stack saved responses at (getD order at 0) strong word v awaiting′ stack′ saved′ responses′ r
+    {a : Asked} {s : Saved} {word v : ℕ} {r : DueReply}
+    → a ≡ askedNext operations order at → s ≡ savedOf (a .operation) registers → SavedAs s word
+    → Executed (a .operation) registers registers′ v
+    → PutOn committed awaiting stack saved responses at (getD order at 0) (a .strong) word v awaiting′ stack′ saved′ responses′ r
     → Next committed awaiting operations order stack registers saved responses at awaiting′ stack′ registers′ saved′ responses′ r
 next-by {committed} {at} {awaiting} {operations} {order} {stack} {registers} {saved} {responses} {awaiting′} {stack′} {registers′} {saved′}
-    {responses′} {word = word} {v} {r} o-is strong-is s-is kept done put = record {
+    {responses′} {word = word} {v} {r} a-is s-is kept done put = record {
       word = word;
-      restores = kept .read ∙ s-is ∙ ap (λ (o : Operation). savedOf o registers) o-is;
+      restores = kept .read ∙ s-is ∙ ap (λ (a : Asked). savedOf (a .operation) registers) a-is;
       done =
-          subst (λ (w : ℕ). Executed (operationIn (getD operations (getD order at 0) 0)) registers registers′ w) (sym (put .its-response))
-          (subst (λ (o : Operation). Executed o registers registers′ v) o-is done);
+          subst (λ (w : ℕ). Executed (askedNext operations order at .operation) registers registers′ w) (sym (put .its-response))
+          (subst (λ (a : Asked). Executed (a .operation) registers registers′ v) a-is done);
       put =
-          subst (λ (w : ℕ). PutOn committed awaiting stack saved responses at (getD order at 0) (strongIn (getD operations (getD order at 0) 0))
+          subst (λ (w : ℕ). PutOn committed awaiting stack saved responses at (getD order at 0) (askedNext operations order at .strong)
           word w awaiting′ stack′ saved′ responses′ r) (sym (put .its-response))
-          (subst (λ (b : Bool). PutOn committed awaiting stack saved responses at (getD order at 0) b word v awaiting′ stack′ saved′ responses′ r)
-          strong-is put);
+          (subst (λ (a : Asked). PutOn committed awaiting stack saved responses at (getD order at 0) (a .strong) word v
+          awaiting′ stack′ saved′ responses′ r) a-is put);
     }
 
 module _ (core : Core) (awaiting operations order stack registers saved responses : List ℕ) where

@@ -21,7 +21,7 @@ use Rattle.creek.specs.Sound.{Sound}
 use Rattle.creek.proofs.StackLaws.{stacked-undone}
 use Rattle.counters.specs.declared.Counters.{Counters}
 use Rattle.replica.specs.State.{State}
-use Rattle.store.specs.Requests.{operationIn, requestAt}
+use Rattle.store.specs.Requests.{askedIn, requestAt}
 use Rattle.replica.specs.Model.{boardSlots, orderOf, planOf, bookOf, model, savedAt, Inv, Kept}
 use Rattle.replica.proofs.States.{undoneState}
 use Rattle.replica.proofs.KeptLaws.{kept-accepted}
@@ -49,7 +49,8 @@ module _ (p : State) (inv : Inv p) where
         (stacked-undone (beneath p inv due) (requestOf p (topSlot p)) (p .executed) (orderOf p) (omega (arith, beneath-length p inv due)))
 
     module _ (registers : List ℕ)
-        (back : registers ≡ restored (operationIn (getD (p .operations) (topSlot p) 0)) (savedAt (p .saved) (p .stacked - 1)) (p .registers)) where
+        (back : registers ≡ restored (askedIn (getD (p .operations) (topSlot p) 0) .operation) (savedAt (p .saved) (p .stacked - 1))
+        (p .registers)) where
       abbrev after : State
       after = undoneState p registers (undosCounted (p .counters) 1)
 

@@ -11,7 +11,7 @@ use Rattle.numbers.specs.Numbers.{numberOf}
 use Rattle.sets.specs.Sets.{setOf, member}
 use Rattle.registers.specs.Rollback.{savedIn, restored}
 use Rattle.slots.specs.Slots.{mostSlots, IsSlot}
-use Rattle.store.specs.Requests.{operationIn}
+use Rattle.store.specs.Requests.{askedIn}
 use Rattle.creek.specs.Book.{undo, execute}
 use Rattle.creek.specs.Replies.{awaitingAfter, markOf}
 use Rattle.replica.specs.declared.Core.{Core}
@@ -49,7 +49,7 @@ pub record TopAsks (stack : List ℕ) (top : ℕ) : Type 0 where
 -- the request at the place `top` on the board, of that slot, was rolled back from what was saved there
 pub record TakenOff (operations stack registers saved : List ℕ) (top : ℕ) (registers′ : List ℕ) (s : ℕ) : Type 0 where
   pub slot : s ≡ getD stack top 0
-  pub rolled-back : registers′ ≡ restored (operationIn (getD operations (getD stack top 0) 0)) (savedIn (getD saved top 0)) registers
+  pub rolled-back : registers′ ≡ restored (askedIn (getD operations (getD stack top 0) 0) .operation) (savedIn (getD saved top 0)) registers
 
 -- ---- execute
 

@@ -79,7 +79,8 @@ pub fn take_off<'a>(
 {
     let slot = stack[top];
     let word = saved[top];
-    let operation = requests::operation_at(operations, slot as usize);
+    let asked = requests::asked_at(operations, slot as usize);
+    let operation = asked.operation;
     registers::rollback(registers, operation, registers::saved_in(word));
     slot
 }
@@ -118,8 +119,8 @@ pub fn execute<'a>(
         };
     }
     let slot = order[at];
-    let operation = requests::operation_at(operations, slot as usize);
-    let strong = requests::strong_at(operations, slot as usize);
+    let asked = requests::asked_at(operations, slot as usize);
+    let operation = asked.operation;
     let before = registers::save(registers, operation);
     let word = registers::saved_word(before);
     let response = registers::execute(registers, operation);
@@ -131,7 +132,7 @@ pub fn execute<'a>(
         responses,
         at,
         slot,
-        strong,
+        asked.strong,
         word,
         response,
     );

@@ -10,7 +10,7 @@ use Rattle.request.specs.declared.Request.{Request}
 use Rattle.numbers.specs.Numbers.{mostPanels, numberOf}
 use Rattle.numbers.proofs.LexicographicLaws.{compared}
 use Rattle.slots.specs.Slots.{IsSlot}
-use Rattle.store.specs.Requests.{WordAs, operationIn, strongIn, contextAt, requestAt, Long, Stored}
+use Rattle.store.specs.Requests.{WordAs, askedIn, contextAt, requestAt, Long, Stored}
 use Rattle.store.proofs.SliceLaws.{slice-stored, slice-before, slice-behind}
 
 -- ---- contexts
@@ -46,7 +46,7 @@ module _ (ws words : List ℕ) (s : ℕ) (count : length words ≡ mostPanels) w
 -- a store at a slot of the table
 module _ {cs os ws cs′ os′ ws′ : List ℕ} {slot w : ℕ} (x : Request)
     (fits : IsSlot slot) (long : Long cs os ws)
-    (read : WordAs (x .operation) (x .strong) w) (count : length (x .context .words) ≡ mostPanels)
+    (read : WordAs (x .asked) w) (count : length (x .context .words) ≡ mostPanels)
     (clocks : cs′ ≡ set cs slot (x .clock .0)) (operations : os′ ≡ set os slot w)
     (contexts : ws′ ≡ sets ws (mostPanels * slot) (x .context .words)) where
   word-there : getD os′ slot 0 ≡ w
@@ -57,15 +57,13 @@ module _ {cs os ws cs′ os′ ws′ : List ℕ} {slot w : ℕ} (x : Request)
   read-again number =
       let clock : getD cs′ slot 0 ≡ x .clock .0 =
       ap (λ (l : List ℕ). getD l slot 0) clocks ∙ getD-set-same cs slot (x .clock .0) 0 (omega arith) in
-      let operation : operationIn (getD os′ slot 0) ≡ x .operation = ap operationIn word-there ∙ read .operation in
-      let strength : strongIn (getD os′ slot 0) ≡ x .strong = ap strongIn word-there ∙ read .strength in
+      let asked : askedIn (getD os′ slot 0) ≡ x .asked = ap askedIn word-there ∙ read .read in
       let words : wordsAt ws′ slot ≡ x .context .words =
       ap (λ (l : List ℕ). wordsAt l slot) contexts ∙ words-there ws (x .context .words) slot count (omega arith) in
       λ i. record {
         number = sym number i;
         clock = record { 0 = clock i };
-        operation = operation i;
-        strong = strength i;
+        asked = asked i;
         context = record { words = words i };
       }
 
@@ -92,8 +90,7 @@ module _ {cs os ws cs′ os′ ws′ : List ℕ} {slot : ℕ} {x : Request} (aft
       λ i. record {
         number = numberOf t;
         clock = record { 0 = clock i };
-        operation = operationIn (word i);
-        strong = strongIn (word i);
+        asked = askedIn (word i);
         context = record { words = words i };
       }
 

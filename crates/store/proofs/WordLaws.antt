@@ -1,4 +1,4 @@
--- Laws of the word of operation and strength: both are read from it again.
+-- Laws of the word of what is asked for: it is read from it again.
 use Prim.Native.Nat.{ℕ, _+_, _*_, _/_, _%_, _<_}
 use native.Mathlib.Omega.{arith}
 use mathlib.Core.Path.{_≡_, refl, ap, _∙_}
@@ -7,27 +7,32 @@ use lib.Arith.{digits-mod}
 use lib.Dec.{eqb}
 use Rattle.lists.specs.Lists.{one}
 use Rattle.lists.proofs.ListLaws.{one-most}
-use Rattle.request.specs.declared.Operation.{Operation}
-use Rattle.store.specs.Requests.{byte, unitR, unitQ, unitStrength, unitAmount, operationIn, strongIn, wordOf}
+use Rattle.request.specs.declared.asked.Asked.{Asked}
+use Rattle.store.specs.Requests.{byte, unitR, unitQ, unitStrength, unitAmount, askedIn, wordOf}
 
 -- the fields are no wider than in the word
-pub record Narrow (o : Operation) : Type 0 where
-  pub code : o .code < byte
-  pub r : o .r < byte
-  pub q : o .q < byte
-  pub amount : o .amount < unitAmount
+pub record Narrow (a : Asked) : Type 0 where
+  pub code : a .operation .code < byte
+  pub r : a .operation .r < byte
+  pub q : a .operation .q < byte
+  pub amount : a .operation .amount < unitAmount
 
 -- the lowest eight bits of a number, where d stands there
 lowest-byte : {w : ℕ} (above : ℕ) {d : ℕ} → w ≡ above * byte + d → d < byte → w % byte ≡ d
 lowest-byte above e small = ap (λ (k : ℕ). k % byte) e ∙ digits-mod above small
 
-module _ (o : Operation) (strong : Bool) (narrow : Narrow o) where
-  pub operation-read : operationIn (wordOf o strong) ≡ o
-  unfolding operationIn wordOf
-  operation-read =
-      let w = wordOf o strong in
-      let bit = one-most strong in
-      let above-q : ℕ = o .amount * byte + one strong in
+module _ (a : Asked) (narrow : Narrow a) where
+  strength-bit : wordOf a / unitStrength % 2 ≡ one (a .strong)
+  unfolding wordOf
+  strength-bit = let bit = one-most (a .strong) in omega arith
+
+  pub asked-read : askedIn (wordOf a) ≡ a
+  unfolding askedIn wordOf
+  asked-read =
+      let o = a .operation in
+      let w = wordOf a in
+      let bit = one-most (a .strong) in
+      let above-q : ℕ = o .amount * byte + one (a .strong) in
       let above-r : ℕ = above-q * byte + o .q in
       let above-code : ℕ = above-r * byte + o .r in
       let from-code : w ≡ above-code * byte + o .code = omega arith in
@@ -37,15 +42,8 @@ module _ (o : Operation) (strong : Bool) (narrow : Narrow o) where
       let r : w / unitR % byte ≡ o .r = lowest-byte above-r from-r (narrow .r) in
       let q : w / unitQ % byte ≡ o .q = lowest-byte above-q from-q (narrow .q) in
       let amount : w / unitAmount ≡ o .amount = omega arith in
-      λ i. record { code = code i; r = r i; q = q i; amount = amount i }
-
-  strength-bit : wordOf o strong / unitStrength % 2 ≡ one strong
-  unfolding wordOf
-  strength-bit = let bit = one-most strong in omega arith
-
-  pub strength-read : strongIn (wordOf o strong) ≡ strong
-  unfolding strongIn
-  strength-read = ap (λ (k : ℕ). eqb k 1) strength-bit ∙ one-is strong
+      let strong : eqb (w / unitStrength % 2) 1 ≡ a .strong = ap (λ (k : ℕ). eqb k 1) strength-bit ∙ one-is (a .strong) in
+      λ i. record { operation = record { code = code i; r = r i; q = q i; amount = amount i }; strong = strong i }
     where
       one-is : (b : Bool) → eqb (one b) 1 ≡ b
       one-is true = refl

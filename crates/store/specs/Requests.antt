@@ -1,20 +1,19 @@
--- Requests by slot in three arrays: the clocks, a word each of operation and strength, and the words of the contexts one after the other.
+-- Requests by slot in three arrays: the clocks, a word each of what they ask for, and the words of the contexts one after the other.
 use Prim.Native.Nat.{ℕ, _+_, _*_, _/_, _%_, _^_}
 use mathlib.Core.Path.{_≡_}
-use mathlib.Core.Bool.{Bool}
 use mathlib.Core.List.{List}
 use lib.ListN.{length, getD, set}
 use lib.Seq.{sets, slice}
 use lib.Dec.{eqb}
 use Rattle.lists.specs.Lists.{one}
 use Rattle.sets.specs.declared.Context.{Context}
-use Rattle.request.specs.declared.Operation.{Operation}
+use Rattle.request.specs.declared.asked.Asked.{Asked}
 use Rattle.request.specs.declared.Request.{Request}
 use Rattle.numbers.specs.Numbers.{clockReading, mostPanels, numberOf}
 use Rattle.sets.specs.Sets.{setOf}
 use Rattle.slots.specs.Slots.{mostSlots}
 
--- ---- the word of operation and strength: eight bits each for code, r and q, one for the strength, and the upper half for the amount
+-- ---- the word of what a request asks for: eight bits each for code, r and q, one for the strength, and the upper half for the amount
 
 -- one past the greatest number in eight bits
 abbrev pub byte : ℕ
@@ -33,23 +32,23 @@ unitStrength = 2 ^ 24
 abbrev pub unitAmount : ℕ
 unitAmount = 2 ^ 32
 
--- the operation in a word
-unfoldable pub operationIn : ℕ → Operation
-operationIn w = record { code = w % byte; r = w / unitR % byte; q = w / unitQ % byte; amount = w / unitAmount }
+-- what a word says is asked for
+unfoldable pub askedIn : ℕ → Asked
+askedIn w = record {
+  operation = record { code = w % byte; r = w / unitR % byte; q = w / unitQ % byte; amount = w / unitAmount };
+  strong = eqb (w / unitStrength % 2) 1;
+}
 
--- the strength in a word
-unfoldable pub strongIn : ℕ → Bool
-strongIn w = eqb (w / unitStrength % 2) 1
+-- the word of what is asked for
+unfoldable pub wordOf : Asked → ℕ
+wordOf a =
+    let o = a .operation in
+    o .code + unitR * o .r + unitQ * o .q + unitStrength * one (a .strong) + unitAmount * o .amount
 
--- the word of an operation and a strength
-unfoldable pub wordOf : Operation → Bool → ℕ
-wordOf o strong = o .code + unitR * o .r + unitQ * o .q + unitStrength * one strong + unitAmount * o .amount
-
--- w is the word of o and the strength, which are read from it again
-pub record WordAs (o : Operation) (strong : Bool) (w : ℕ) : Type 0 where
-  pub word : w ≡ wordOf o strong
-  pub operation : operationIn w ≡ o
-  pub strength : strongIn w ≡ strong
+-- w is the word of a, which is read from it again
+pub record WordAs (a : Asked) (w : ℕ) : Type 0 where
+  pub word : w ≡ wordOf a
+  pub read : askedIn w ≡ a
 
 -- ---- a request at a slot
 
@@ -62,8 +61,7 @@ unfoldable pub requestAt : List ℕ → List ℕ → List ℕ → ℕ → Reques
 requestAt clocks operations contexts s = record {
   number = numberOf s;
   clock = clockReading (getD clocks s 0);
-  operation = operationIn (getD operations s 0);
-  strong = strongIn (getD operations s 0);
+  asked = askedIn (getD operations s 0);
   context = contextAt contexts s;
 }
 
@@ -80,7 +78,7 @@ pub record Long (cs os ws : List ℕ) : Type 0 where
 -- the arrays cs, os and ws became cs′, os′ and ws′: x was stored at a slot, where it is read again if that is its number's slot
 pub record Stored (cs os ws : List ℕ) (slot : ℕ) (x : Request) (cs′ os′ ws′ : List ℕ) : Type 0 where
   pub clocks : cs′ ≡ set cs slot (x .clock .0)
-  pub operations : os′ ≡ set os slot (wordOf (x .operation) (x .strong))
+  pub operations : os′ ≡ set os slot (wordOf (x .asked))
   pub contexts : ws′ ≡ sets ws (mostPanels * slot) (x .context .words)
   pub words : length (x .context .words) ≡ mostPanels
   pub there : x .number ≡ numberOf slot → requestAt cs′ os′ ws′ slot ≡ x

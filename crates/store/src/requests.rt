@@ -1,7 +1,8 @@
-// Requests by slot in three lent arrays: the clocks, a word each of operation and strength, the words of the contexts one after the other.
+// Requests by slot in three lent arrays: the clocks, a word each of what they ask for, the words of the contexts one after the other.
 use numbers::Clock;
 use request::Operation;
 use request::Request;
+use request::asked::Asked;
 use sets::Context;
 ghost use mathlib.Core.Path.{_≡_};
 ghost use Prim.Native.Nat.{_*_};
@@ -9,12 +10,12 @@ ghost use lib.ListN.{length, getD};
 ghost use lib.Seq.{sets};
 ghost use Rattle.numbers.specs.Numbers.{mostPanels};
 ghost use Rattle.slots.specs.Slots.{IsSlot};
-ghost use Rattle.store.specs.Requests.{operationIn, strongIn, contextAt, requestAt, mostWords, WordAs, Long, Stored};
+ghost use Rattle.store.specs.Requests.{askedIn, contextAt, requestAt, mostWords, WordAs, Long, Stored};
 
 // One past the greatest number in eight bits.
 const BYTE: u64 = 256;
 
-// What r, q, the strength and the amount are multiplied by in an operation's word; the code stands lowest.
+// What r, q, the strength and the amount are multiplied by in the word; the code stands lowest.
 const UNIT_R: u64 = 256;
 
 const UNIT_Q: u64 = 65536;
@@ -26,33 +27,28 @@ const UNIT_AMOUNT: u64 = 4294967296;
 // The words of a context.
 const WORDS: usize = numbers::MOST_PANELS as usize;
 
-// The operation in a word.
-fn operation_in(word: u64) -> Operation
-    ensures { λ o. ⌜ o ≡ operationIn word ⌝ }
+// What a word says is asked for.
+fn asked_in(word: u64) -> Asked
+    ensures { λ a. ⌜ a ≡ askedIn word ⌝ }
 {
     let code = (word % BYTE) as u8;
     let r = (word / UNIT_R % BYTE) as u8;
     let q = (word / UNIT_Q % BYTE) as u8;
     let amount = (word / UNIT_AMOUNT) as u32;
-    Operation { code, r, q, amount }
+    let strong = word / UNIT_STRENGTH % 2 == 1;
+    Asked {
+        operation: Operation { code, r, q, amount },
+        strong,
+    }
 }
 
-// The operation at a slot.
-pub fn operation_at(operations: &[u64; 512], slot: usize) -> Operation
+// What the request at a slot asks for.
+pub fn asked_at(operations: &[u64; 512], slot: usize) -> Asked
     requires { ⌜ IsSlot slot ⌝ }
-    ensures { λ o. ⌜ o ≡ operationIn (getD (now (operations .entry)) slot 0) ⌝ }
+    ensures { λ a. ⌜ a ≡ askedIn (getD (now (operations .entry)) slot 0) ⌝ }
 {
     let word = operations[slot];
-    operation_in(word)
-}
-
-// Whether the request at a slot is strong.
-pub fn strong_at(operations: &[u64; 512], slot: usize) -> bool
-    requires { ⌜ IsSlot slot ⌝ }
-    ensures { λ b. ⌜ b ≡ strongIn (getD (now (operations .entry)) slot 0) ⌝ }
-{
-    let word = operations[slot];
-    word / UNIT_STRENGTH % 2 == 1
+    asked_in(word)
 }
 
 // The context at a slot.
@@ -84,27 +80,25 @@ pub fn request_at<'a>(
     let s = slot as usize;
     let clock = clocks[s];
     let number = numbers::number_of(slot);
-    let operation = operation_at(operations, s);
-    let strong = strong_at(operations, s);
+    let asked = asked_at(operations, s);
     let context = context_at(contexts, s);
     Request {
         number,
         clock: Clock(clock),
-        operation,
-        strong,
+        asked,
         context,
     }
 }
 
-// The word of an operation and a strength.
-fn word_of(o: Operation, strong: bool) -> u64
-    ensures { λ w. ⌜ WordAs o strong w ⌝ }
+// The word of what is asked for.
+fn word_of(a: Asked) -> u64
+    ensures { λ w. ⌜ WordAs a w ⌝ }
 {
-    let code = o.code as u64;
-    let r = o.r as u64;
-    let q = o.q as u64;
-    let amount = o.amount as u64;
-    let strength = strong as u64;
+    let code = a.operation.code as u64;
+    let r = a.operation.r as u64;
+    let q = a.operation.q as u64;
+    let amount = a.operation.amount as u64;
+    let strength = a.strong as u64;
     code + UNIT_R * r + UNIT_Q * q + UNIT_STRENGTH * strength + UNIT_AMOUNT * amount
 }
 
@@ -136,7 +130,7 @@ pub fn put_request(
 {
     let s = slot as usize;
     let clock = x.clock.0;
-    let word = word_of(x.operation, x.strong);
+    let word = word_of(x.asked);
     let context = x.context;
     clocks[s] = clock;
     operations[s] = word;

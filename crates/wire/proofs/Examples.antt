@@ -26,8 +26,7 @@ weak =
     request (record {
       number = numbered 0 1;
       clock = record { 0 = 10 };
-      operation = record { code = codeSet; r = 4; q = 0; amount = 6 };
-      strong = false;
+      asked = record { operation = record { code = codeSet; r = 4; q = 0; amount = 6 }; strong = false };
       context = emptySet;
     })
 
@@ -40,8 +39,7 @@ strong =
     request (record {
       number = numbered 1 2;
       clock = record { 0 = 12 };
-      operation = record { code = codeClaim; r = 0; q = 0; amount = 2 };
-      strong = true;
+      asked = record { operation = record { code = codeClaim; r = 0; q = 0; amount = 2 }; strong = true };
       context = setOf (0 ∷ 1 ∷ replicate 6 0);
     })
 

@@ -18,7 +18,7 @@ use Rattle.wire.specs.declared.Kind.{Kind}
 use Rattle.wire.specs.declared.Kind.the-variants.{Weak, Strong}
 use Rattle.wire.specs.Layout.{numberWidths, bodyWidths, contextWidths, layout, size, sizeOf, Within}
 use Rattle.wire.specs.Message.{BusMessage, request, settlement, kindOf, numberFields, bodyFields, contents, fieldsOf}
-use Rattle.wire.specs.Message.{Fits, bare, held, said}
+use Rattle.wire.specs.Message.{Fits, held, said}
 use Rattle.parts.proofs.WidthLaws.{words-within}
 use Rattle.wire.proofs.MessageLaws.{weak-least, kind-by, fieldsBy}
 
@@ -26,7 +26,7 @@ use Rattle.wire.proofs.MessageLaws.{weak-least, kind-by, fieldsBy}
 
 -- what is held for a message says that message
 pub said-held : (m : BusMessage) → said (held m) ≡ m
-unfolding said held bare
+unfolding said held
 said-held (request r) = refl
 said-held (settlement n) = refl
 
@@ -41,13 +41,13 @@ module _ (m : Message) where
 
 -- a request of kind k, by its strength: it is no shorter than a weak one
 module _ (m : Message) (k : Kind) (known : k ≡ kindOf (said m)) (asks : m .settles ≡ false) where
-  pub kind-said : (b : Bool) → m .request .strong ≡ b → k ≡ cond b Strong Weak
+  pub kind-said : (b : Bool) → m .request .asked .strong ≡ b → k ≡ cond b Strong Weak
   kind-said b e = known ∙ ap kindOf (said-request m asks) ∙ kind-by (m .request) b e
 
   pub weak-room : sizeOf Weak ≤ sizeOf k
-  weak-room = rw (kind-said (m .request .strong) refl) (weak-least (m .request .strong))
+  weak-room = rw (kind-said (m .request .asked .strong) refl) (weak-least (m .request .asked .strong))
 
-  pub strong-size : m .request .strong ≡ true → sizeOf k ≡ sizeOf Strong
+  pub strong-size : m .request .asked .strong ≡ true → sizeOf k ≡ sizeOf Strong
   strong-size e = ap sizeOf (kind-said true e)
 
 -- ---- its fields fit
@@ -57,16 +57,16 @@ pub record Held (r : Request) : Type 0 where
   pub panel : r .number .panel .0 < 2 ^ 8
   pub event : r .number .event .0 < 2 ^ 8
   pub clock : r .clock .0 < 2 ^ 32
-  pub code : r .operation .code < 2 ^ 8
-  pub first : r .operation .r < 2 ^ 8
-  pub second : r .operation .q < 2 ^ 8
-  pub amount : r .operation .amount < 2 ^ 32
+  pub code : r .asked .operation .code < 2 ^ 8
+  pub first : r .asked .operation .r < 2 ^ 8
+  pub second : r .asked .operation .q < 2 ^ 8
+  pub amount : r .asked .operation .amount < 2 ^ 32
   pub words : Words (r .context)
 
 module _ (r : Request) (h : Held r) where
   pub request-fits : Fits (request r)
   unfolding kindOf layout fieldsOf contents sizeOf size
-  request-fits = record { fields = by (r .strong); words = h .words }
+  request-fits = record { fields = by (r .asked .strong); words = h .words }
     where
       body : (ws vs : List ℕ) → Within ws vs → Within (numberWidths ++ bodyWidths ++ ws) (numberFields (r .number) ++ bodyFields r ++ vs)
       body ws vs rest = (h .panel, (h .event, (h .clock, (h .code, (h .first, (h .second, (lit< tt, (h .amount, rest))))))))

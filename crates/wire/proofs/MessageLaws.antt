@@ -41,7 +41,7 @@ weak-least false = lit≤ tt
 
 -- ---- a request by its strength
 
-pub kind-by : (r : Request) (b : Bool) → r .strong ≡ b → kindOf (request r) ≡ cond b Strong Weak
+pub kind-by : (r : Request) (b : Bool) → r .asked .strong ≡ b → kindOf (request r) ≡ cond b Strong Weak
 unfolding kindOf
 kind-by r b e = ap (λ (t : Bool). cond t Strong Weak) e
 
@@ -51,7 +51,7 @@ fieldsBy r strong =
     let k = cond strong Strong Weak in
     sizeOf k ∷ kindNumber k ∷ numberFields (r .number) ++ bodyFields r ++ cond strong (r .context .words) []
 
-pub bytes-by : (r : Request) (b : Bool) → r .strong ≡ b → bytesOf (request r) ≡ encode (layout (cond b Strong Weak)) (fieldsBy r b)
+pub bytes-by : (r : Request) (b : Bool) → r .asked .strong ≡ b → bytesOf (request r) ≡ encode (layout (cond b Strong Weak)) (fieldsBy r b)
 unfolding bytesOf kindOf fieldsOf contents
 bytes-by r b e = ap (λ (t : Bool). encode (layout (cond t Strong Weak)) (fieldsBy r t)) e
 
@@ -98,4 +98,4 @@ pub message-back : (m : BusMessage) → Fits m → weakWithContext m ≡ false �
 unfolding messageFrom kindOf fieldsOf contents weakWithContext
 message-back (settlement n) fits ok = refl
 message-back (request r) fits ok =
-    back-by r (r .strong) ∙ ap (back r (r .strong)) (context-back r (r .strong) ok (fits .words))
+    back-by r (r .asked .strong) ∙ ap (back r (r .asked .strong)) (context-back r (r .asked .strong) ok (fits .words))

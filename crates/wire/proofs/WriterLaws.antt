@@ -88,13 +88,13 @@ module _ (m : Message) (k : Kind) (known : k ≡ kindOf (said m)) (out out₁ ou
     module _ (asks : m .settles ≡ false) (out₃ : List ℕ)
         (body : out₃ ≡ sets out₂ (size settlementWidths) (encode bodyWidths (bodyFields (m .request))))
       where
-        bytes-are : (b : Bool) → m .request .strong ≡ b
+        bytes-are : (b : Bool) → m .request .asked .strong ≡ b
             → sets out 0 (encode (layout (cond b Strong Weak)) (fieldsBy (m .request) b)) ≡ sets out 0 (bytesOf (said m))
         bytes-are b e =
             sym (ap (λ (x : BusMessage). sets out 0 (bytesOf x)) (said-request m asks)
             ∙ ap (λ (l : List ℕ). sets out 0 l) (bytes-by (m .request) b e))
 
-        pub weak-put : m .request .strong ≡ false → out₃ ≡ sets out 0 (bytesOf (said m))
+        pub weak-put : m .request .asked .strong ≡ false → out₃ ≡ sets out 0 (bytesOf (said m))
         unfolding layout size sizeOf
         weak-put e =
             fields-then out out₁ out₃ 0 headWidths _ (numberWidths ++ bodyWidths) _ refl
@@ -103,7 +103,7 @@ module _ (m : Message) (k : Kind) (known : k ≡ kindOf (said m)) (out out₁ ou
             ∙ bytes-are false e
 
         -- with the context, a strong one
-        pub strong-put : m .request .strong ≡ true → (out₄ : List ℕ)
+        pub strong-put : m .request .asked .strong ≡ true → (out₄ : List ℕ)
             → out₄ ≡ sets out₃ (size weakWidths) (encode contextWidths (m .request .context .words))
             → out₄ ≡ sets out 0 (bytesOf (said m))
         unfolding layout size sizeOf

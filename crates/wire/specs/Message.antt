@@ -7,7 +7,7 @@ use lib.ListN.{drop}
 use Rattle.numbers.specs.declared.Number.{Number}
 use Rattle.sets.specs.declared.Context.{Context}
 use Rattle.request.specs.declared.Request.{Request}
-use Rattle.numbers.specs.Numbers.{noNumber}
+use Rattle.request.specs.Request.{bareRequest, noRequest}
 use Rattle.sets.specs.Sets.{emptySet, setOf, isEmpty, Words}
 use Rattle.wire.specs.declared.Message.{Message}
 use Rattle.wire.specs.declared.Kind.{Kind}
@@ -22,14 +22,14 @@ pub data BusMessage : Type 0 where
 
 -- the kind of a message
 unfoldable pub kindOf : BusMessage → Kind
-kindOf (request r) = cond (r .strong) Strong Weak
+kindOf (request r) = cond (r .asked .strong) Strong Weak
 kindOf (settlement n) = Settlement
 
 -- ---- the fields of a message, in the order of its layout
 
 -- the words of a strong request's context
 abbrev pub contextFields : Request → List ℕ
-contextFields r = cond (r .strong) (r .context .words) []
+contextFields r = cond (r .asked .strong) (r .context .words) []
 
 -- what stands after the first four bytes
 unfoldable pub contents : BusMessage → List ℕ
@@ -56,7 +56,7 @@ messageFrom Settlement f = settlement (numberFrom f)
 
 -- weak with a context (refusal 21)
 unfoldable pub weakWithContext : BusMessage → Bool
-weakWithContext (request r) = not (r .strong) && not (isEmpty (r .context))
+weakWithContext (request r) = not (r .asked .strong) && not (isEmpty (r .context))
 weakWithContext (settlement n) = false
 
 -- a request's context has a word for each panel
@@ -71,25 +71,14 @@ pub record Fits (m : BusMessage) : Type 0 where
 
 -- ---- as the code holds them
 
--- a request of which only the number stands for something
-unfoldable pub bare : Number → Request
-bare n =
-    record {
-      number = n;
-      clock = record { 0 = 0 };
-      operation = record { code = 0; r = 0; q = 0; amount = 0 };
-      strong = false;
-      context = emptySet;
-    }
-
 -- what is held for a message
 unfoldable pub held : BusMessage → Message
 held (request r) = record { settles = false; request = r }
-held (settlement n) = record { settles = true; request = bare n }
+held (settlement n) = record { settles = true; request = bareRequest n }
 
 -- zeros, where there is no message
 unfoldable pub noMessage : Message
-noMessage = record { settles = false; request = bare noNumber }
+noMessage = record { settles = false; request = noRequest }
 
 -- the message that is held
 unfoldable pub said : Message → BusMessage

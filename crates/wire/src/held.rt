@@ -1,14 +1,10 @@
 // Messages as the code holds them: made of a request or of the number to settle, and their kind.
 use super::Kind;
 use super::Message;
-use numbers::Clock;
-use numbers::EventNo;
 use numbers::Number;
-use numbers::PanelNo;
-use request::Operation;
 use request::Request;
 ghost use mathlib.Core.Path.{_≡_};
-ghost use Rattle.wire.specs.Message.{request as requestMessage, settlement, kindOf, bare, held, noMessage, said};
+ghost use Rattle.wire.specs.Message.{request as requestMessage, settlement, kindOf, held, noMessage, said};
 
 // The message that spreads r.
 pub fn of_request(r: Request) -> Message
@@ -26,7 +22,7 @@ pub fn of_settlement(n: Number) -> Message
 {
     Message {
         settles: true,
-        request: bare_request(n),
+        request: request::bare(n),
     }
 }
 
@@ -34,13 +30,9 @@ pub fn of_settlement(n: Number) -> Message
 pub fn nothing() -> Message
     ensures { λ m. ⌜ m ≡ noMessage ⌝ }
 {
-    let none = Number {
-        panel: PanelNo(0),
-        event: EventNo(0),
-    };
     Message {
         settles: false,
-        request: bare_request(none),
+        request: request::none(),
     }
 }
 
@@ -52,26 +44,8 @@ pub fn kind_of(m: Message) -> Kind
         return Kind::Settlement;
     }
     let r = m.request;
-    if r.strong {
+    if r.asked.strong {
         return Kind::Strong;
     }
     Kind::Weak
-}
-
-// A request of which only the number stands for something.
-fn bare_request(n: Number) -> Request
-    ensures { λ r. ⌜ r ≡ bare n ⌝ }
-{
-    Request {
-        number: n,
-        clock: Clock(0),
-        operation: Operation {
-            code: 0,
-            r: 0,
-            q: 0,
-            amount: 0,
-        },
-        strong: false,
-        context: sets::empty(),
-    }
 }

@@ -50,7 +50,7 @@ fn weak_with_context(m: Message) -> bool
         return false;
     }
     let r = m.request;
-    if r.strong {
+    if r.asked.strong {
         return false;
     }
     !sets::is_empty(r.context)
@@ -68,7 +68,7 @@ fn put_message(out: &mut [u8], m: Message, kind: Kind)
         return;
     }
     writing::put_body(out, request);
-    if !request.strong {
+    if !request.asked.strong {
         return;
     }
     writing::put_context(out, request.context);

@@ -13,8 +13,8 @@ extern "C" fn handwritten_fresh(panel: &mut OwnPanel, panels: u8, own: u8) -> u8
 
 #[no_mangle]
 #[inline(never)]
-extern "C" fn handwritten_invoke(panel: &mut OwnPanel, asked: Invocation) -> Answer {
-    panel.invoke(asked)
+extern "C" fn handwritten_invoke(panel: &mut OwnPanel, invocation: Invocation) -> Answer {
+    panel.invoke(invocation)
 }
 
 #[no_mangle]
@@ -109,8 +109,8 @@ impl Component for Behind {
         handwritten_fresh(&mut self.0, panels, own)
     }
 
-    fn invoke(&mut self, asked: Invocation) -> Answer {
-        handwritten_invoke(&mut self.0, asked)
+    fn invoke(&mut self, invocation: Invocation) -> Answer {
+        handwritten_invoke(&mut self.0, invocation)
     }
 
     fn deliver(&mut self, request: Request) -> Answer {

@@ -58,11 +58,9 @@ pub enum Given {
 impl From<&Call> for Given {
     fn from(call: &Call) -> Given {
         match call {
-            Call::Make(operation, strong, clock) => Given::Invoke(Invocation {
-                operation: (*operation).into(),
-                strong: *strong as u8,
-                clock: clock.0,
-            }),
+            Call::Make(operation, strong, clock) => {
+                Given::Invoke(Invocation { asked: Asked::new(*operation, *strong), clock: clock.0 })
+            }
             Call::Hear(request) => Given::Deliver(request.into()),
             Call::Settle(number) => Given::Commit((*number).into()),
             Call::Undo => Given::Undo,

@@ -31,15 +31,19 @@ add-steps c =
     let ran = c .before .before .before in
     omega (arith, due-few (ran .run-due .ensures) (start ran .pre))
 
-nothing-requires : tie.Need-nothing-requires
-nothing-requires c κs = search needs
+none-requires : tie.Need-none-requires
+none-requires c κs = search needs
+
+reply-requires : tie.Need-reply-requires
+reply-requires c κs = search needs
 
 returns : tie.Need-returns
 returns c =
-    let nothing = c .before .before in
-    let counted = nothing .before .before in
+    let replied = c .before in
+    let none = replied .before in
+    let counted = none .before .before in
     due-counts (counted .before .before .run-due .ensures) _ _ (counted .before .undos-counted .ensures)
-    (counted .executions-counted .ensures) _ (nothing .nothing .ensures)
+    (counted .executions-counted .ensures) _ (rw (none .none .ensures) at (replied .reply .ensures))
 
 pub all-due-spec : {M : Type 1} → statement M
 all-due-spec =
@@ -49,5 +53,6 @@ all-due-spec =
     undos-counted-requires
     executions-counted-requires
     add-steps
-    nothing-requires
+    none-requires
+    reply-requires
     returns)

@@ -44,9 +44,8 @@ next c =
     let done = executed c in
     let kept = done .before .before in
     let saved = kept .before in
-    let strong = saved .before .before in
-    let operation = strong .before in
-    next-by (operation .operation-at .ensures) (strong .strong-at .ensures) (saved .save .ensures) (kept .saved-word .ensures)
+    let read = saved .before .before .before in
+    next-by (read .asked-at .ensures) (saved .save .ensures) (kept .saved-word .ensures)
     (done .execute .ensures) (c .put-on .ensures)
 
 room : (c : tie.Else1 Inv-loop μ-loop) → body (executed (c .before .before)) .before .loop .count < mostReplies
@@ -77,17 +76,11 @@ mul-slot c = omega (arith, asked c)
 element-copy-out-slot : tie.Need-element-copy-out-slot Inv-loop μ-loop
 element-copy-out-slot c = asked c .place
 
-cast-operation-at : tie.Need-cast-operation-at Inv-loop μ-loop
-cast-operation-at c = omega (arith, asked (c .before))
+cast-asked-at : tie.Need-cast-asked-at Inv-loop μ-loop
+cast-asked-at c = omega (arith, asked (c .before))
 
-operation-at-requires : tie.Need-operation-at-requires Inv-loop μ-loop
-operation-at-requires c κs = asked (c .before) .slot
-
-cast-strong-at : tie.Need-cast-strong-at Inv-loop μ-loop
-cast-strong-at c = omega (arith, asked (c .before .before))
-
-strong-at-requires : tie.Need-strong-at-requires Inv-loop μ-loop
-strong-at-requires c κs = asked (c .before .before) .slot
+asked-at-requires : tie.Need-asked-at-requires Inv-loop μ-loop
+asked-at-requires c κs = asked (c .before) .slot
 
 save-requires : tie.Need-save-requires Inv-loop μ-loop
 save-requires c κs = search needs
@@ -146,10 +139,8 @@ execute-all-spec =
     loop-holds
     mul-slot
     element-copy-out-slot
-    cast-operation-at
-    operation-at-requires
-    cast-strong-at
-    strong-at-requires
+    cast-asked-at
+    asked-at-requires
     save-requires
     saved-word-requires
     execute-requires

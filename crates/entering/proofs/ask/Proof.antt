@@ -2,8 +2,8 @@
 use mathlib.Core.Path.{_≡_, sym, _∙_}
 use mathlib.Core.Bool.{false}
 use borrow.Author.Needs.{needs}
-use Rattle.request.specs.Operations.{badOperation}
-use Rattle.entering.proofs.InvokingLaws.{asked-operation, asked-full, asked-passes}
+use Rattle.request.specs.Asked.{badAsked}
+use Rattle.entering.proofs.InvokingLaws.{refused-bad, refused-full, refused-none}
 use Rattle.entering.proofs.ask.Statement.{statement}
 use Rattle.entering.proofs.ask.Tie as tie
 
@@ -11,16 +11,16 @@ bad-requires : tie.Need-bad-requires
 bad-requires c κs = search needs
 
 returns : tie.Need-returns
-returns c = asked-operation _ _ (sym (c .before .bad .ensures) ∙ c .if1 .taken)
+returns c = refused-bad _ _ (sym (c .before .bad .ensures) ∙ c .if1 .taken)
 
-operation-good : (c : tie.Else1) → badOperation (c .before .before .args .i .operation) ≡ false
-operation-good c = sym (c .before .bad .ensures) ∙ c .if1 .left
+asked-good : (c : tie.Else1) → badAsked (c .before .before .args .i .asked) ≡ false
+asked-good c = sym (c .before .bad .ensures) ∙ c .if1 .left
 
 returns-2 : tie.Need-returns-2
-returns-2 c = asked-full _ _ (operation-good (c .before)) (c .if2 .taken)
+returns-2 c = refused-full _ _ (asked-good (c .before)) (c .if2 .taken)
 
 returns-3 : tie.Need-returns-3
-returns-3 c = asked-passes _ _ (operation-good (c .before)) (c .if2 .left)
+returns-3 c = refused-none _ _ (asked-good (c .before)) (c .if2 .left)
 
 pub ask-spec : {M : Type 1} → statement M
 ask-spec = tie.close (tie.spec bad-requires returns returns-2 returns-3)

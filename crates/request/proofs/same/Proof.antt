@@ -17,9 +17,9 @@ returns : tie.Need-returns
 unfolding sameRequest
 returns c =
     rw (
-      c .before .before .before .before .before .before .same .ensures,
-      c .before .before .before .before .before .same2 .ensures,
-      c .before .before .before .before .same3 .ensures,
+      c .before .before .before .before .same .ensures,
+      c .before .before .before .same2 .ensures,
+      c .before .before .same3 .ensures,
     )
 
 pub same-spec : {M : Type 1} → statement M

@@ -62,11 +62,14 @@ loop-again c =
     let v = c .before .before .before .loop in
     (omega arith, v .inv .1, v .inv .2 ∙ lowest-passed _ _ (v .panel) (omega arith) (c .if1 .left))
 
+none-requires : tie.Need-none-requires Inv-loop μ-loop
+none-requires c κs = search needs
+
 returns-2 : tie.Need-returns-2 Inv-loop μ-loop
 unfolding lowest
 returns-2 c =
-    let v = c .before .loop in
-    sym (v .inv .2 ∙ lowest-end _ _ (v .panel) (omega arith))
+    let v = c .before .before .loop in
+    c .none .ensures ∙ sym (v .inv .2 ∙ lowest-end _ _ (v .panel) (omega arith))
 
 pub lowest-spec : {M : Type 1} → statement M
 lowest-spec =
@@ -84,4 +87,5 @@ lowest-spec =
     add-panel
     loop-less
     loop-again
+    none-requires
     returns-2)

@@ -7,7 +7,7 @@ use lib.ListN.{getD}
 use lib.Dec.{leb}
 use Rattle.slots.specs.Slots.{IsSlot}
 use Rattle.slots.specs.Settlement.{Settled}
-use Rattle.store.specs.Requests.{strongIn, contextAt}
+use Rattle.store.specs.Requests.{askedIn, contextAt}
 use Rattle.sets.specs.Sets.{setOf}
 use Rattle.slots.proofs.SettlementLaws.{committed-inside}
 use Rattle.creek.specs.Sound.{mostRequests}
@@ -72,11 +72,11 @@ answer-is : (c : tie.After-held-answer)
     let slot = at .before .before in
     let a = start slot in
     c .held-answer .result
-    ≡ heldAnswer (strongIn (getD (a .args .operations .now) (slot .slot-of .result) 0)) (contextAt (a .args .contexts .now) (slot .slot-of .result))
-    (setOf (a .args .known .now)) (a .args .n)
+    ≡ heldAnswer (askedIn (getD (a .args .operations .now) (slot .slot-of .result) 0) .strong)
+    (contextAt (a .args .contexts .now) (slot .slot-of .result)) (setOf (a .args .known .now)) (a .args .n)
 answer-is c =
     let at = c .before .before in
-    c .held-answer .ensures ∙ rw (at .before .strong-at .ensures, at .context-at .ensures)
+    c .held-answer .ensures ∙ rw (at .before .asked-at .ensures, at .context-at .ensures)
 
 -- past the second it is to be settled
 to-settle : (c : tie.Else2) (p : State) → let slot = slotted c in Inv (lent (start slot) p)
@@ -124,11 +124,11 @@ returns c =
 slot-of-requires : tie.Need-slot-of-requires
 slot-of-requires c κs = search needs
 
-cast-strong-at : tie.Need-cast-strong-at
-cast-strong-at c = search needs
+cast-asked-at : tie.Need-cast-asked-at
+cast-asked-at c = search needs
 
-strong-at-requires : tie.Need-strong-at-requires
-strong-at-requires c κs = slot-of-is c
+asked-at-requires : tie.Need-asked-at-requires
+asked-at-requires c κs = slot-of-is c
 
 cast-context-at : tie.Need-cast-context-at
 cast-context-at c = search needs
@@ -223,8 +223,8 @@ commit-spec =
     refused-requires
     returns
     slot-of-requires
-    cast-strong-at
-    strong-at-requires
+    cast-asked-at
+    asked-at-requires
     cast-context-at
     context-at-requires
     held-answer-requires

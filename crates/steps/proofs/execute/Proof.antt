@@ -42,17 +42,11 @@ mul-slot c = search needs
 element-copy-out-slot : tie.Need-element-copy-out-slot
 element-copy-out-slot c = search needs
 
-cast-operation-at : tie.Need-cast-operation-at
-cast-operation-at c = omega (arith, asked (c .before))
+cast-asked-at : tie.Need-cast-asked-at
+cast-asked-at c = omega (arith, asked (c .before))
 
-operation-at-requires : tie.Need-operation-at-requires
-operation-at-requires c κs = asked (c .before) .slot
-
-cast-strong-at : tie.Need-cast-strong-at
-cast-strong-at c = omega (arith, asked (c .before .before))
-
-strong-at-requires : tie.Need-strong-at-requires
-strong-at-requires c κs = asked (c .before .before) .slot
+asked-at-requires : tie.Need-asked-at-requires
+asked-at-requires c κs = asked (c .before) .slot
 
 save-requires : tie.Need-save-requires
 save-requires c κs = search needs
@@ -81,11 +75,10 @@ returns-3 c =
     let done = on .before .before .before .before .before in
     let kept = done .before .before in
     let saved = kept .before in
-    let strong = saved .before .before in
-    let operation = strong .before in
-    let else = operation .before .before in
+    let read = saved .before .before .before in
+    let else = read .before .before in
     execute-done _ _ _ _ _ _ _ _ (idle (else .before .before)) (more else)
-    (next-by (operation .operation-at .ensures) (strong .strong-at .ensures) (saved .save .ensures) (kept .saved-word .ensures)
+    (next-by (read .asked-at .ensures) (saved .save .ensures) (kept .saved-word .ensures)
     (done .execute .ensures) (on .put-on .ensures)) _ (c .reply .ensures)
 
 pub execute-spec : {M : Type 1} → statement M
@@ -98,10 +91,8 @@ execute-spec =
     returns-2
     mul-slot
     element-copy-out-slot
-    cast-operation-at
-    operation-at-requires
-    cast-strong-at
-    strong-at-requires
+    cast-asked-at
+    asked-at-requires
     save-requires
     saved-word-requires
     execute-requires

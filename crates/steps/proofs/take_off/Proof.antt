@@ -16,11 +16,11 @@ mul-word c = search needs
 element-copy-out-word : tie.Need-element-copy-out-word
 element-copy-out-word c = search needs
 
-cast-operation-at : tie.Need-cast-operation-at
-cast-operation-at c = search needs
+cast-asked-at : tie.Need-cast-asked-at
+cast-asked-at c = search needs
 
-operation-at-requires : tie.Need-operation-at-requires
-operation-at-requires c κs = search needs
+asked-at-requires : tie.Need-asked-at-requires
+asked-at-requires c κs = search needs
 
 saved-in-requires : tie.Need-saved-in-requires
 saved-in-requires c κs = search needs
@@ -30,8 +30,8 @@ rollback-requires c κs = search needs
 
 returns : tie.Need-returns
 returns c =
-    let read = c .before .before .before in
-    record { slot = refl; rolled-back = c .rollback .ensures ∙ rw (read .operation-at .ensures, c .before .saved-in .ensures) }
+    let read = c .before .before .before .before in
+    record { slot = refl; rolled-back = c .rollback .ensures ∙ rw (read .asked-at .ensures, c .before .saved-in .ensures) }
 
 pub take-off-spec : {M : Type 1} → statement M
 take-off-spec =
@@ -41,8 +41,8 @@ take-off-spec =
     element-copy-out-slot
     mul-word
     element-copy-out-word
-    cast-operation-at
-    operation-at-requires
+    cast-asked-at
+    asked-at-requires
     saved-in-requires
     rollback-requires
     returns)

@@ -16,11 +16,11 @@ lent a =
 inside : (c : tie.Else1) → Within (lent (c .before .before)) (c .before .before .pre .invariant) (c .before .before .args .place)
 inside c = within (lent (c .before .before)) (c .before .before .pre .invariant) (c .before .before .args .place) (c .if1 .left)
 
-no-request-requires : tie.Need-no-request-requires
-no-request-requires c κs = search needs
+none-requires : tie.Need-none-requires
+none-requires c κs = search needs
 
 returns : tie.Need-returns
-returns c = record { shown = λ p inv. place-refused _ inv _ _ (c .before .if1 .taken) (c .no-request .ensures) }
+returns c = record { shown = λ p inv. place-refused _ inv _ _ (c .before .if1 .taken) (c .none .ensures) }
 
 sub-slot : tie.Need-sub-slot
 sub-slot c = omega (arith, inside c)
@@ -44,7 +44,7 @@ pub at-place-spec : {M : Type 1} → statement M
 at-place-spec =
     tie.close
     (tie.spec
-    no-request-requires
+    none-requires
     returns
     sub-slot
     mul-slot

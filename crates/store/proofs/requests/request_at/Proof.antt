@@ -14,11 +14,8 @@ element-copy-out-clock c = search needs
 number-of-requires : tie.Need-number-of-requires
 number-of-requires c κs = search needs
 
-operation-at-requires : tie.Need-operation-at-requires
-operation-at-requires c κs = search needs
-
-strong-at-requires : tie.Need-strong-at-requires
-strong-at-requires c κs = search needs
+asked-at-requires : tie.Need-asked-at-requires
+asked-at-requires c κs = search needs
 
 context-at-requires : tie.Need-context-at-requires
 context-at-requires c κs = search needs
@@ -26,12 +23,11 @@ context-at-requires c κs = search needs
 returns : tie.Need-returns
 unfolding requestAt
 returns c =
-    let a = c .before .before .before .before .before .args in
+    let a = c .before .before .before .before .args in
     λ i. record {
-      number = c .before .before .before .number-of .ensures i;
+      number = c .before .before .number-of .ensures i;
       clock = record { 0 = getD (a .clocks .now) (a .slot) 0 };
-      operation = c .before .before .operation-at .ensures i;
-      strong = c .before .strong-at .ensures i;
+      asked = c .before .asked-at .ensures i;
       context = c .context-at .ensures i;
     }
 
@@ -42,7 +38,6 @@ request-at-spec =
     mul-clock
     element-copy-out-clock
     number-of-requires
-    operation-at-requires
-    strong-at-requires
+    asked-at-requires
     context-at-requires
     returns)

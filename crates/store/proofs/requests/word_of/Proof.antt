@@ -5,9 +5,10 @@ use mathlib.Core.Bool.{Bool, true, false}
 use mir.Val.{boolByte}
 use borrow.Author.Needs.{needs}
 use Rattle.lists.specs.Lists.{one}
+use Rattle.request.specs.declared.asked.Asked.{Asked}
 use Rattle.lists.proofs.ListLaws.{one-most}
 use Rattle.store.specs.Requests.{wordOf}
-use Rattle.store.proofs.WordLaws.{Narrow, operation-read, strength-read}
+use Rattle.store.proofs.WordLaws.{Narrow, asked-read}
 use Rattle.store.proofs.requests.word_of.Statement.{statement}
 use Rattle.store.proofs.requests.word_of.Tie as tie
 
@@ -15,6 +16,10 @@ use Rattle.store.proofs.requests.word_of.Tie as tie
 bool-number : (b : Bool) → boolByte b ≡ one b
 bool-number true = refl
 bool-number false = refl
+
+-- what is asked for, from where all its fields are read
+abbrev asked : tie.After-struct-known5 → Asked
+asked c = c .before .before .before .before .before .args .a
 
 cast-code : tie.Need-cast-code
 cast-code c = search needs
@@ -44,28 +49,23 @@ add-result-2 : tie.Need-add-result-2
 add-result-2 c = search needs
 
 mul-result-3 : tie.Need-mul-result-3
-mul-result-3 c = let b = c .before .before .before .before .args .strong in omega (arith, bool-number b, one-most b)
+mul-result-3 c = let b = asked c .strong in omega (arith, bool-number b, one-most b)
 
 add-result-3 : tie.Need-add-result-3
-add-result-3 c = let b = c .before .before .before .before .args .strong in omega (arith, bool-number b, one-most b)
+add-result-3 c = let b = asked c .strong in omega (arith, bool-number b, one-most b)
 
 mul-result-4 : tie.Need-mul-result-4
 mul-result-4 c = search needs
 
 add-result-4 : tie.Need-add-result-4
-add-result-4 c = let b = c .before .before .before .before .args .strong in omega (arith, bool-number b, one-most b)
+add-result-4 c = let b = asked c .strong in omega (arith, bool-number b, one-most b)
 
 returns : tie.Need-returns
 unfolding wordOf
 returns c =
-    let a = c .before .before .before .before .args in
-    let narrow : Narrow (a .o) = search needs in
-    let bit = bool-number (a .strong) in
-    record {
-      word = rw bit;
-      operation = rw bit (operation-read (a .o) (a .strong) narrow);
-      strength = rw bit (strength-read (a .o) (a .strong) narrow);
-    }
+    let narrow : Narrow (asked c) = search needs in
+    let bit = bool-number (asked c .strong) in
+    record { word = rw bit; read = rw bit (asked-read (asked c) narrow) }
 
 pub word-of-spec : {M : Type 1} → statement M
 word-of-spec =

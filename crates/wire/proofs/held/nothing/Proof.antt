@@ -3,12 +3,12 @@ use Rattle.wire.specs.Message.{noMessage}
 use Rattle.wire.proofs.held.nothing.Statement.{statement}
 use Rattle.wire.proofs.held.nothing.Tie as tie
 
-bare-request-requires : tie.Need-bare-request-requires
-bare-request-requires c κs = tt
+none-requires : tie.Need-none-requires
+none-requires c κs = tt
 
 returns : tie.Need-returns
 unfolding noMessage
-returns c = rw (c .bare-request .ensures)
+returns c = rw (c .none .ensures)
 
 pub nothing-spec : {M : Type 1} → statement M
-nothing-spec = tie.close (tie.spec bare-request-requires returns)
+nothing-spec = tie.close (tie.spec none-requires returns)

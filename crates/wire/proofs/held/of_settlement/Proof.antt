@@ -3,12 +3,12 @@ use Rattle.wire.specs.Message.{held}
 use Rattle.wire.proofs.held.of_settlement.Statement.{statement}
 use Rattle.wire.proofs.held.of_settlement.Tie as tie
 
-bare-request-requires : tie.Need-bare-request-requires
-bare-request-requires c κs = tt
+bare-requires : tie.Need-bare-requires
+bare-requires c κs = tt
 
 returns : tie.Need-returns
 unfolding held
-returns c = rw (c .bare-request .ensures)
+returns c = rw (c .bare .ensures)
 
 pub of-settlement-spec : {M : Type 1} → statement M
-of-settlement-spec = tie.close (tie.spec bare-request-requires returns)
+of-settlement-spec = tie.close (tie.spec bare-requires returns)
