@@ -3,8 +3,8 @@
 use encoding::answers::ANSWER_SIZE;
 use encoding::calls::CALL_SIZE;
 use encoding::calls::CALLS_AT;
-use encoding::calls::MESSAGE_SIZE;
 use libc::STDOUT_FILENO;
+use wire::layout::LONGEST_MESSAGE;
 use wire::reader;
 ghost use Prim.Native.Nat.{_+_, _*_, _≤_, _<_};
 ghost use lib.ListN.{length};
@@ -73,7 +73,7 @@ fn print_answer(answers: &[u8], at: usize)
     io::print_decimal(STDOUT_FILENO, wide(answers[at]));
     print_bytes(answers, at + 1, RESPONSE_AT - 1);
     print_field(response_at(answers, at + RESPONSE_AT));
-    print_spread(answers, at + (ANSWER_SIZE - MESSAGE_SIZE));
+    print_spread(answers, at + (ANSWER_SIZE - LONGEST_MESSAGE));
     end_line();
 }
 

@@ -1,5 +1,6 @@
 // All due steps in one call: what is to be rolled back is undone, then what is to do is executed.
 use creek::mark::NOBODY;
+use numbers::Number;
 use replica::Core;
 use steps::DueReply;
 use store::requests;
@@ -136,12 +137,16 @@ fn execute_all<'a>(
     DueResult { core: after, due }
 }
 
-// The reply of zeros, which stands behind those that fell due.
+// The reply of zeros, which stands behind those that fell due. Its number is given by parts, by which the compiler fills the replies in
+// place.
 fn no_reply() -> DueReply
     ensures { λ r. ⌜ r ≡ noReply ⌝ }
 {
+    let none = numbers::none();
+    let panel = none.panel;
+    let event = none.event;
     DueReply {
-        number: numbers::none(),
+        number: Number { panel, event },
         response: 0,
         mark: NOBODY,
     }

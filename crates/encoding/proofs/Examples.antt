@@ -16,9 +16,10 @@ use Rattle.creek.specs.Execution.{registers, adjusted, executedNext, executeRef
 use Rattle.creek.specs.Plan.{lastEvent, lastClock, entered, atLeast, made, invokeRefusal}
 use Rattle.creek.specs.Replies.{executionMark, executionReply, acceptedAnswer, answerOf, acceptedAwaiting}
 use Rattle.wire.specs.Integers.{integerAt, integerBytes}
-use Rattle.wire.specs.Layout.{layout, size, decode, encode, sizeOf, fieldsAt}
-use Rattle.wire.specs.Message.{kindOf, contents, fieldsOf, bytesOf, messageFrom, weakWithContext, held, noMessage}
-use Rattle.wire.specs.Reader.{answered, lengthAt, kindAt, spareAt, refusalAs, readAs, readAt}
+use Rattle.wire.specs.Layout.{kindWith, layout, widthsWith, leastSize, mostSize, decode, encode}
+use Rattle.wire.specs.Message.{kindOf, frontOf, runOf, behindOf, contents, widthsOf, sizeOf, fieldsOf, bytesOf, messageFrom}
+use Rattle.wire.specs.Message.{weakWithContext, held, noMessage}
+use Rattle.wire.specs.Reader.{answered, lengthAt, kindAt, runAt, fieldsAt, spareSet, refusalAs, readAs, readAt}
 use Rattle.intake.specs.Intake.{callOf}
 use Rattle.encoding.specs.Encoding.{messageAt, invocationOf, callAt, entryAt, entriesFrom, callCount, entriesOf}
 use Rattle.encoding.specs.Encoding.{one, allDue, after, answerTo}
@@ -44,9 +45,10 @@ pub made-and-carried-out : answersBytes (freshOf asked) (entriesOf asked)
 unfolding sameNumber badNumber badOperation badAsked before allZero isEmpty bit member join leave offBoard added claimed amountMoved
     moved exec response replayOn replay refusal accepted badShop fresh accept step registers adjusted executedNext
     executeRefusal lastEvent lastClock entered atLeast made invokeRefusal executionMark executionReply acceptedAnswer answerOf
-    acceptedAwaiting integerAt integerBytes layout size decode encode sizeOf fieldsAt kindOf contents fieldsOf bytesOf
-    messageFrom weakWithContext held noMessage answered lengthAt kindAt spareAt refusalAs readAs readAt messageAt
-    invocationOf callOf callAt entryAt entriesFrom callCount entriesOf after answerTo messageBytes headBytes answerBytes answersBytes
+    acceptedAwaiting integerAt integerBytes kindWith layout widthsWith leastSize mostSize decode encode kindOf frontOf runOf behindOf
+    contents widthsOf sizeOf fieldsOf bytesOf messageFrom weakWithContext held noMessage answered lengthAt kindAt runAt fieldsAt
+    spareSet refusalAs readAs readAt messageAt invocationOf callOf callAt entryAt entriesFrom callCount entriesOf after answerTo
+    messageBytes headBytes answerBytes answersBytes
 made-and-carried-out = refl
 
 -- the tags of the steps, whatever stands behind them: 2 undo, 3 carry out, 4 all due steps

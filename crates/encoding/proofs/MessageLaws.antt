@@ -6,29 +6,21 @@ use mathlib.Core.List.{List}
 use native.Mathlib.Omega.{arith}
 use lib.ListN.{length, length-replicate}
 use Rattle.request.specs.declared.Request.{Request}
-use Rattle.wire.specs.declared.Kind.{Kind}
-use Rattle.wire.specs.declared.Kind.the-variants.{Weak, Strong, Settlement}
 use Rattle.wire.specs.declared.Message.{Message}
 use Rattle.wire.specs.declared.Written.{Written}
-use Rattle.wire.specs.Layout.{sizeOf, layout, size}
-use Rattle.wire.specs.Message.{request, kindOf, weakWithContext, Fits, held, said}
+use Rattle.wire.specs.Layout.{longestMessage}
+use Rattle.wire.specs.Message.{request, sizeOf, weakWithContext, Fits, held, said}
 use Rattle.wire.specs.Writer.{afterWrite, Wrote}
-use Rattle.wire.proofs.WriterLaws.{context-refused, written, bytes-put}
+use Rattle.wire.proofs.WriterLaws.{size-most, context-refused, written, bytes-put}
 use Rattle.wire.proofs.HeldLaws.{said-held}
-use Rattle.encoding.specs.Encoding.{messageSize, noMessageBytes, messageBytes}
-
-size-most : (k : Kind) → sizeOf k ≤ messageSize
-unfolding sizeOf layout size
-size-most Weak = omega arith
-size-most Strong = omega arith
-size-most Settlement = omega arith
+use Rattle.encoding.specs.Encoding.{noMessageBytes, messageBytes}
 
 after-zeros : (x : Request) → Fits (request x) → afterWrite (request x) noMessageBytes ≡ messageBytes x
 unfolding messageBytes
 after-zeros x fits = go (weakWithContext (request x)) refl
   where
-    room : sizeOf (kindOf (request x)) ≤ length noMessageBytes
-    room = omega (arith, size-most (kindOf (request x)), length-replicate {A = ℕ} messageSize 0)
+    room : sizeOf (request x) ≤ length noMessageBytes
+    room = omega (arith, size-most (request x) fits, length-replicate {A = ℕ} longestMessage 0)
 
     go : (b : Bool) → weakWithContext (request x) ≡ b → afterWrite (request x) noMessageBytes ≡ messageBytes x
     go true e = context-refused (request x) noMessageBytes e .1 ∙ rw e refl

@@ -13,18 +13,19 @@ use Rattle.creek.specs.declared.Answer.{Answer}
 use Rattle.creek.specs.Calls.{Replica}
 use Rattle.replica.specs.State.{State}
 use Rattle.wire.specs.Integers.{integerBytes}
+use Rattle.wire.specs.Layout.{longestMessage}
 use Rattle.wire.specs.Message.{request, bytesOf, weakWithContext}
-use Rattle.encoding.specs.Encoding.{messageSize, noMessageBytes, messageBytes, headBytes, answerBytes, answerSize, answersBytes}
+use Rattle.encoding.specs.Encoding.{noMessageBytes, messageBytes, headBytes, answerBytes, answerSize, answersBytes}
 use Rattle.encoding.specs.Encoding.{callsAt, callSize, Entry, entriesFrom, callCount, entriesOf, after, answerTo}
 use Rattle.encoding.specs.Encoding.{tight, entriesRun}
 
-length-message : (x : Request) → length (messageBytes x) ≡ messageSize
+length-message : (x : Request) → length (messageBytes x) ≡ longestMessage
 unfolding messageBytes
 length-message x = go (weakWithContext (request x))
   where
-    go : (b : Bool) → length (cond {A = List ℕ} b noMessageBytes (sets noMessageBytes 0 (bytesOf (request x)))) ≡ messageSize
-    go true = length-replicate {A = ℕ} messageSize 0
-    go false = length-sets noMessageBytes 0 (bytesOf (request x)) ∙ length-replicate {A = ℕ} messageSize 0
+    go : (b : Bool) → length (cond {A = List ℕ} b noMessageBytes (sets noMessageBytes 0 (bytesOf (request x)))) ≡ longestMessage
+    go true = length-replicate {A = ℕ} longestMessage 0
+    go false = length-sets noMessageBytes 0 (bytesOf (request x)) ∙ length-replicate {A = ℕ} longestMessage 0
 
 -- every answer has as many bytes
 pub length-answer : (a : Answer) → length (answerBytes a) ≡ answerSize

@@ -19,6 +19,7 @@ use Rattle.replica.specs.State.{State, Called}
 use Rattle.replica.specs.Model.{Inv, model}
 use Rattle.wire.specs.declared.Message.{Message}
 use Rattle.wire.specs.Integers.{integerBytes}
+use Rattle.wire.specs.Layout.{longestMessage}
 use Rattle.wire.specs.Message.{request, bytesOf, said, weakWithContext}
 use Rattle.wire.specs.Reader.{answered, readAt}
 use Rattle.intake.specs.Intake.{callOf}
@@ -42,13 +43,9 @@ panelsOf s = getD s panelsAt 0
 abbrev pub ownOf : List ℕ → ℕ
 ownOf s = getD s ownAt 0
 
--- the bytes of the longest bus message
-abbrev pub messageSize : ℕ
-messageSize = 82
-
 -- the bytes of a call: a tag and room for the longest bus message
 abbrev pub callSize : ℕ
-callSize = suc messageSize
+callSize = suc longestMessage
 
 -- the tags; every other one is that of a bus message
 abbrev pub invokeTag : ℕ
@@ -142,7 +139,7 @@ callsOf r (x ∷ xs) = callsIn r x ++ callsOf (after r x) xs
 
 -- no message
 abbrev pub noMessageBytes : List ℕ
-noMessageBytes = replicate messageSize 0
+noMessageBytes = replicate longestMessage 0
 
 -- the bus message that spreads x, with zeros behind it up to the longest one; no call answers a weak request with a context, which has
 -- no bus message
@@ -165,7 +162,7 @@ answerBytes a = headBytes a ++ messageBytes (a .request)
 
 -- the bytes of every answer: four, those of the response, and room for the longest bus message
 abbrev pub answerSize : ℕ
-answerSize = 4 + responseWidth + messageSize
+answerSize = 4 + responseWidth + longestMessage
 
 -- the bytes of the answers to those entries, each on what the last one left
 unfoldable pub answersBytes : Replica → List Entry → List ℕ

@@ -1,14 +1,14 @@
 // The bytes of an answer.
-use super::calls::MESSAGE_SIZE;
 use creek::Answer;
 use request::Request;
 use wire::held;
+use wire::layout::LONGEST_MESSAGE;
 use wire::writer;
 ghost use Rattle.text.specs.Placed.{Room, Placed};
 ghost use Rattle.encoding.specs.Encoding.{answerBytes, messageBytes};
 
 // The bytes of every answer: eight, and room for the longest bus message.
-pub const ANSWER_SIZE: usize = 8 + MESSAGE_SIZE;
+pub const ANSWER_SIZE: usize = 8 + LONGEST_MESSAGE;
 
 // Puts an answer and returns the place behind it.
 pub fn put_answer(out: &mut [u8], at: usize, a: Answer) -> usize
@@ -33,7 +33,7 @@ fn put_message(out: &mut [u8], at: usize, x: Request) -> usize
     requires { ⌜ Room (now out) at (messageBytes x) ⌝ }
     ensures { λ behind. ⌜ Placed (now (out .entry)) at (messageBytes x) (now (out .exit)) behind ⌝ }
 {
-    let mut message = [0u8; MESSAGE_SIZE];
+    let mut message = [0u8; LONGEST_MESSAGE];
     let spread = held::of_request(x);
     let written = writer::write(&mut message, spread);
     text::put_bytes(out, at, &message)

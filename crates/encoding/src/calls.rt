@@ -1,6 +1,7 @@
 // Where the calls stand in a run of bytes, and what of one is read.
 use creek::Invocation;
 use request::Request;
+use wire::layout::LONGEST_MESSAGE;
 ghost use mathlib.Core.Path.{_≡_};
 ghost use lib.ListN.{getD};
 ghost use Rattle.encoding.specs.Encoding.{callCount, invocationOf};
@@ -12,11 +13,8 @@ pub const OWN_AT: usize = 1;
 // Where the first call stands.
 pub const CALLS_AT: usize = 2;
 
-// The bytes of the longest bus message.
-pub const MESSAGE_SIZE: usize = 82;
-
 // The bytes of a call: the tag and room for the longest bus message.
-pub const CALL_SIZE: usize = 1 + MESSAGE_SIZE;
+pub const CALL_SIZE: usize = 1 + LONGEST_MESSAGE;
 
 pub const INVOKE: u8 = 1;
 

@@ -1,7 +1,6 @@
 -- The call that a message stands for is that of its kind, and what stands at a place is received by it or leaves the panel alone.
 use Prim.Native.Nat.{ℕ}
 use mathlib.Core.Path.{_≡_, refl}
-use mathlib.Core.Bool.{true, false}
 use mathlib.Core.List.{List}
 use Rattle.request.specs.Refusal.{accepted}
 use Rattle.replica.specs.declared.Core.{Core}
@@ -9,6 +8,7 @@ use Rattle.replica.specs.declared.CallResult.{CallResult}
 use Rattle.entering.specs.Entering.{DeliverKept}
 use Rattle.settling.specs.Settling.{CommitKept}
 use Rattle.wire.specs.declared.Message.{Message}
+use Rattle.wire.specs.declared.Subject.the-variants.{Request, Settlement}
 use Rattle.wire.specs.declared.Reading.{Reading}
 use Rattle.wire.specs.declared.Answer.the-variants.{Message as aMessage, End, Refused}
 use Rattle.wire.specs.Message.{said}
@@ -21,7 +21,7 @@ module _ {core : Core} {held known awaiting clocks operations contexts order sta
   -- ---- the call that a message stands for
 
   module _ (m : Message) {r : CallResult} where
-    pub take-settled : m .settles ≡ true → {known′ awaiting′ order′ : List ℕ}
+    pub take-settled : m .subject ≡ Settlement → {known′ awaiting′ order′ : List ℕ}
         → CommitKept core held known awaiting operations contexts order stack responses (m .request .number) known′ awaiting′ order′ r
         → Taken core held known awaiting clocks operations contexts order stack responses (said m)
         held known′ awaiting′ clocks operations contexts order′ r
@@ -31,7 +31,7 @@ module _ {core : Core} {held known awaiting clocks operations contexts order sta
           rw (said-settlement m e) (k .kept (takeParts p core held known awaiting clocks operations contexts order stack responses) inv);
     }
 
-    pub take-heard : m .settles ≡ false → {held′ known′ clocks′ operations′ contexts′ order′ : List ℕ}
+    pub take-heard : m .subject ≡ Request → {held′ known′ clocks′ operations′ contexts′ order′ : List ℕ}
         → DeliverKept core held known clocks operations contexts order stack (m .request) held′ known′ clocks′ operations′ contexts′ order′ r
         → Taken core held known awaiting clocks operations contexts order stack responses (said m)
         held′ known′ awaiting clocks′ operations′ contexts′ order′ r

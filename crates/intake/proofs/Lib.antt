@@ -1,3 +1,4 @@
--- The laws of taking in a message, for the crates above.
+-- The laws of taking in a message and of what is found in a run of bytes, for the crates above.
 pub mod ReadingLaws
 pub mod IntakeLaws
+pub mod FoundLaws

@@ -1,12 +1,13 @@
 // Bus messages taken in by a panel: the call that a message stands for, and the message at a place of a run of bytes.
 //
 // The panel's parts are lent as in `entering` and `settling`, whose calls these are. `Intake` of `specs/` says what a message stands for and
-// what receiving promises.
+// what receiving promises, `Found` which messages are found in a run of bytes.
 use creek::Answer;
 use replica::CallResult;
 use replica::Core;
 use request::refusal;
 use wire::Message;
+use wire::Subject;
 use wire::reader;
 ghost use mathlib.Core.Path.{_≡_};
 ghost use Rattle.wire.specs.Message.{said};
@@ -48,8 +49,20 @@ pub fn take<'a>(
         (now (contexts .exit)) (now (order .exit)) r ⌝ }
 {
     let x = m.request;
-    if m.settles {
-        return settling::commit(
+    let subject = m.subject;
+    match subject {
+        Subject::Request => entering::deliver(
+            core,
+            held,
+            known,
+            clocks,
+            operations,
+            contexts,
+            order,
+            stack,
+            x,
+        ),
+        Subject::Settlement => settling::commit(
             core,
             held,
             known,
@@ -60,19 +73,8 @@ pub fn take<'a>(
             stack,
             responses,
             x.number,
-        );
+        ),
     }
-    entering::deliver(
-        core,
-        held,
-        known,
-        clocks,
-        operations,
-        contexts,
-        order,
-        stack,
-        x,
-    )
 }
 
 // The message at a place is read, and heard or settled; what cannot be read leaves the panel alone.

@@ -1,8 +1,31 @@
--- What the reader answers, as a caller in another language sees it.
+-- Messages, and what the reader answers, as a caller in another language sees them.
+use mathlib.Core.Bool.{Bool, true, false}
+use Rattle.wire.specs.declared.Subject.{Subject}
+use Rattle.wire.specs.declared.Subject.the-variants.{Request, Settlement}
+use Rattle.wire.specs.declared.Message.{Message as Held}
 use Rattle.wire.specs.declared.Reading.{Reading}
 use Rattle.wire.specs.Reader.{refusalOf}
+use Rattle.mizzencord.specs.declared.bytes.Message.{Message}
 use Rattle.mizzencord.specs.declared.bytes.MessageRead.{MessageRead}
+
+-- whether a message settles, by its subject
+abbrev pub settles : Subject → Bool
+settles Request = false
+settles Settlement = true
+
+-- and its subject, by whether it settles
+abbrev pub subjectOf : Bool → Subject
+subjectOf false = Request
+subjectOf true = Settlement
+
+-- a message as C holds it
+abbrev pub shownFor : Held → Message
+shownFor m = record { settles = settles (m .subject); request = m .request }
+
+-- the message that C holds
+abbrev pub heldFor : Message → Held
+heldFor m = record { subject = subjectOf (m .settles); request = m .request }
 
 -- the refusal's number, 0 for a message and for the end; the bytes taken; and the message
 abbrev pub readFrom : Reading → MessageRead
-readFrom r = record { refusal = refusalOf (r .answer); taken = r .taken; message = r .message }
+readFrom r = record { refusal = refusalOf (r .answer); taken = r .taken; message = shownFor (r .message) }

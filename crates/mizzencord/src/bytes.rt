@@ -1,8 +1,9 @@
 // The calls on bytes without a panel: a printout, a list of calls, a message. Each lent slice crosses as a pointer and a length.
 //
 // `docs/CALLS.md` has the encoding of a list of calls. The contracts are those of `sheet`, `driver` and `wire`.
+use request::Request;
 use request::refusal;
-use wire::Message;
+use wire::Subject;
 use wire::Written;
 use wire::reader;
 use wire::writer;
@@ -11,13 +12,21 @@ ghost use Rattle.sheet.specs.Putting.{Printed};
 ghost use Rattle.mizzencord.specs.Lists.{Answered};
 ghost use Rattle.wire.specs.Reader.{answered, readAt};
 ghost use Rattle.wire.specs.Writer.{Wrote};
-ghost use Rattle.mizzencord.specs.Messages.{readFrom};
+ghost use Rattle.mizzencord.specs.Messages.{shownFor, heldFor, readFrom};
 
 // What a list of calls led to: refusal 20 without room for the answers, else fresh's; and how many calls were run.
 #[repr(C)]
 pub struct ListResult {
     pub refusal: u8,
     pub ran: usize,
+}
+
+// A message as C holds it: the request, or the settlement of its number, for which the other fields stand for nothing. An enum does not
+// cross to C.
+#[repr(C)]
+pub struct Message {
+    pub settles: bool,
+    pub request: Request,
 }
 
 // What stands at a place: the refusal, the bytes taken and the message, zeros where there is none.
@@ -88,7 +97,7 @@ pub extern "C" fn mizzencord_read(bytes: &[u8], at: usize) -> MessageRead
     let reading = reader::read(bytes, at);
     let answer = reading.answer;
     let refusal = reader::refusal_of(answer);
-    let message = reading.message;
+    let message = shown(reading.message);
     MessageRead {
         refusal,
         taken: reading.taken,
@@ -99,7 +108,43 @@ pub extern "C" fn mizzencord_read(bytes: &[u8], at: usize) -> MessageRead
 // Writes a message at the front of `out`: exactly its bytes, or nothing where it is refused.
 #[no_mangle]
 pub extern "C" fn mizzencord_write(message: Message, out: &mut [u8]) -> Written
-    ensures { λ r. ⌜ Wrote message (now (out .entry)) (now (out .exit)) r ⌝ }
+    ensures { λ r. ⌜ Wrote (heldFor message) (now (out .entry)) (now (out .exit)) r ⌝ }
 {
-    writer::write(out, message)
+    let held = held_for(message);
+    writer::write(out, held)
+}
+
+// A message as C holds it.
+fn shown(m: wire::Message) -> Message
+    ensures { λ r. ⌜ r ≡ shownFor m ⌝ }
+{
+    let subject = m.subject;
+    let request = m.request;
+    match subject {
+        Subject::Request => Message {
+            settles: false,
+            request,
+        },
+        Subject::Settlement => Message {
+            settles: true,
+            request,
+        },
+    }
+}
+
+// The message that C holds.
+fn held_for(m: Message) -> wire::Message
+    ensures { λ r. ⌜ r ≡ heldFor m ⌝ }
+{
+    let request = m.request;
+    if m.settles {
+        return wire::Message {
+            subject: Subject::Settlement,
+            request,
+        };
+    }
+    wire::Message {
+        subject: Subject::Request,
+        request,
+    }
 }

@@ -11,8 +11,17 @@ use lib.ListN.{getD, set, take, drop, length, replicate, length-append}
 use lib.Seq.{sets, drop-cons, take-add, drop-drop}
 use Rattle.numbers.specs.Numbers.{mostPanels}
 use Rattle.parts.specs.Integers.{integerAt, integerBytes}
-use Rattle.parts.specs.Widths.{wordWidth, size, decode, encode, Within}
+use Rattle.parts.specs.Widths.{byteWidth, wordWidth, size, decode, encode, Within}
 use Rattle.parts.proofs.IntegerLaws.{length-integerBytes, integer-back, Bytes, bytes-back, integer-within}
+
+pub size-append : (ws vs : List ℕ) → size (ws ++ vs) ≡ size ws + size vs
+size-append [] vs = omega arith
+size-append (w ∷ ws) vs = omega (arith, size-append ws vs)
+
+-- a run of n bytes is n fields of a byte each
+pub size-bytes : (n : ℕ) → size (replicate n byteWidth) ≡ n
+size-bytes zero = refl
+size-bytes (suc n) = omega (arith, size-bytes n)
 
 pub length-decode : (ws s : List ℕ) (at : ℕ) → length (decode ws s at) ≡ length ws
 unfolding decode
@@ -20,7 +29,7 @@ length-decode [] s at = refl
 length-decode (w ∷ ws) s at = ap suc (length-decode ws s (at + w))
 
 pub length-encode : (ws vs : List ℕ) → length ws ≡ length vs → length (encode ws vs) ≡ size ws
-unfolding encode size
+unfolding encode
 length-encode [] vs e = refl
 length-encode (w ∷ ws) [] e = absurd (omega arith)
 length-encode (w ∷ ws) (v ∷ vs) e =
@@ -51,7 +60,7 @@ fields-back (w ∷ ws) (v ∷ vs) before behind h =
 
 -- what was read is written
 pub run-back : (ws s : List ℕ) (at : ℕ) → Bytes s → at + size ws ≤ length s → encode ws (decode ws s at) ≡ take (size ws) (drop at s)
-unfolding decode encode size
+unfolding decode encode
 run-back [] s at b p = refl
 run-back (w ∷ ws) s at b p =
     rw (bytes-back w s at b (omega arith), run-back ws s (at + w) b (omega arith), take-add w (size ws) (drop at s), drop-drop w at s)

@@ -2,7 +2,7 @@
 -- what follows for any widths. Which kind has which is in `wire`.
 use Prim.Native.Nat.{ℕ, suc, _+_, _^_, _<_}
 use mathlib.Core.List.{List, [], _∷_, _++_}
-use lib.ListN.{replicate}
+use lib.ListN.{length, replicate}
 use Rattle.numbers.specs.Numbers.{mostPanels}
 use Rattle.parts.specs.Integers.{integerAt, integerBytes}
 
@@ -19,6 +19,10 @@ numberWidths = 1 ∷ 1 ∷ []
 -- clock, code, r, q, spare, amount
 abbrev pub bodyWidths : List ℕ
 bodyWidths = 4 ∷ 1 ∷ 1 ∷ 1 ∷ 1 ∷ 4 ∷ []
+
+-- a byte of a run of bytes
+abbrev pub byteWidth : ℕ
+byteWidth = 1
 
 -- a word of the context
 abbrev pub wordWidth : ℕ
@@ -81,7 +85,7 @@ contextField = suc amountField
 -- ---- what follows for any widths
 
 -- the bytes of fields of these widths
-unfoldable pub size : List ℕ → ℕ
+abbrev pub size : List ℕ → ℕ
 size [] = 0
 size (w ∷ ws) = w + size ws
 
@@ -102,6 +106,12 @@ Within [] [] = Unit {0}
 Within [] (v ∷ vs) = ⊥
 Within (w ∷ ws) [] = ⊥
 Within (w ∷ ws) (v ∷ vs) = (v < 256 ^ w) × Within ws vs
+
+-- ---- the head
+
+-- how many fields it has
+abbrev pub headFields : ℕ
+headFields = length headWidths
 
 -- the bytes of length and kind
 abbrev pub headSize : ℕ

@@ -1,3 +1,2 @@
--- The laws of what is found in the input, and the worked example.
-pub mod FoundLaws
+-- The worked example.
 pub mod Worked

@@ -20,12 +20,13 @@ use Rattle.creek.specs.Replies.{stableReplyDue, acceptedAnswer, answerOf, accep
 use Rattle.creek.specs.Calls.{badShop, fresh, accept, step}
 use Rattle.creek.specs.History.{afterDueSteps}
 use Rattle.wire.specs.Integers.{integerAt}
-use Rattle.wire.specs.Layout.{layout, size, decode, sizeOf, fieldsAt}
+use Rattle.wire.specs.Layout.{kindWith, layout, widthsWith, leastSize, mostSize, decode}
 use Rattle.wire.specs.Message.{kindOf, messageFrom}
-use Rattle.wire.specs.Reader.{lengthAt, kindAt, spareAt, refusalAs, readAs, readAt}
+use Rattle.wire.specs.Reader.{lengthAt, kindAt, runAt, fieldsAt, spareSet, refusalAs, readAs, readAt}
 use Rattle.report.specs.Lines.{boardLine, messageLine, totalsLine, registerLine, lineUnlessZero, registerLinesFrom, registerLines}
 use Rattle.intake.specs.Intake.{callOf}
-use Rattle.printed.specs.Printout.{found, after, afterAll, numberIn, lineOfMessage, lineFor, refusalIn}
+use Rattle.intake.specs.Found.{found}
+use Rattle.printed.specs.Printout.{after, afterAll, numberIn, lineOfMessage, lineFor, refusalIn}
 use Rattle.printed.specs.Printout.{messageLines, closing, printoutOf, printout}
 
 -- three panels, of which this is the last
@@ -72,11 +73,12 @@ workedOutput =
     ++ ascii "register 4 6\n"
 
 pub printout-worked : printout workedInput ≡ workedOutput
-unfolding significant decimal restOfLine line sameNumber badNumber sameOperation badOperation sameAsked badAsked before sameRequest
-    badContext sameWords sameContext allZero isEmpty namesFrom bit member join lackedWords difference subset offBoard added claimed exec
-    replayOn replay entered committing committingFound deliverRefusal commitRefusal registers adjusted undone undoRefusal executedNext
-    executeRefusal refusal accepted executionMark executionReply settlementReply stableReplyDue acceptedAnswer answerOf acceptedAwaiting
-    badShop fresh accept step afterDueSteps integerAt layout size decode sizeOf fieldsAt kindOf messageFrom lengthAt kindAt spareAt
-    refusalAs readAs readAt boardLine messageLine totalsLine registerLine lineUnlessZero registerLinesFrom registerLines found callOf
-    after afterAll numberIn lineOfMessage lineFor refusalIn messageLines closing printoutOf printout ascii
+unfolding significant decimal restOfLine line sameNumber badNumber sameOperation badOperation sameAsked badAsked before sameRequest badContext
+    sameWords sameContext allZero isEmpty namesFrom bit member join lackedWords difference subset offBoard added claimed exec replayOn
+    replay entered committing committingFound deliverRefusal commitRefusal registers adjusted undone undoRefusal executedNext
+    executeRefusal refusal accepted executionMark executionReply settlementReply stableReplyDue acceptedAnswer answerOf
+    acceptedAwaiting badShop fresh accept step afterDueSteps integerAt kindWith layout widthsWith leastSize mostSize decode kindOf messageFrom
+    lengthAt kindAt runAt fieldsAt spareSet refusalAs readAs readAt boardLine messageLine totalsLine registerLine lineUnlessZero
+    registerLinesFrom registerLines found callOf after afterAll numberIn lineOfMessage lineFor refusalIn messageLines closing printoutOf
+    printout ascii
 printout-worked = refl

@@ -1,5 +1,5 @@
--- The whole printout as a function of the input's bytes: what is found in them, what it makes of `creek`'s replica, and the lines of both.
-use Prim.Native.Nat.{ℕ, zero, suc, _+_, _*_, _/_, _-_}
+-- The whole printout as a function of the input's bytes: what is found in them makes of `creek`'s replica, and the lines of both.
+use Prim.Native.Nat.{ℕ, suc, _+_, _*_, _/_, _-_}
 use mathlib.Core.Bool.{cond}
 use mathlib.Core.List.{List, [], _∷_, _++_}
 use lib.ListN.{length, getD}
@@ -10,13 +10,11 @@ use Rattle.creek.specs.Execution.{registers}
 use Rattle.creek.specs.Calls.{Replica, badShop, fresh, step, answer}
 use Rattle.creek.specs.History.{idled}
 use Rattle.creek.specs.Showing.{undosShown, executionsShown}
-use Rattle.wire.specs.declared.Reading.{Reading}
-use Rattle.wire.specs.declared.Answer.{Answer}
-use Rattle.wire.specs.declared.Answer.the-variants.{Message as aMessage, End, Refused}
-use Rattle.wire.specs.Layout.{kindNumber}
+use Rattle.wire.specs.Layout.{kindNumber, leastMessage}
 use Rattle.wire.specs.Message.{BusMessage, request, settlement, kindOf}
+use Rattle.wire.specs.Reader.{Outcome, message, end, refused}
 use Rattle.intake.specs.Intake.{callOf}
-use Rattle.wire.specs.Reader.{Outcome, message, end, refused, readAt}
+use Rattle.intake.specs.Found.{foundFrom}
 use Rattle.report.specs.Lines.{boardLine, refusedLine, messageLine, unreadLine, totalsLine, registerLines}
 use Rattle.report.specs.Sizes.{mostBoardBytes, mostMessageBytes, mostTotalsBytes, mostRegistersBytes}
 
@@ -29,32 +27,6 @@ mostInput = 65536
 -- P and the own panel, one byte each, stand in front of the messages
 abbrev pub shopBytes : ℕ
 shopBytes = 2
-
--- how many of the bytes left are passed over behind the first byte of what is found: the rest of a message, or all of them, since what
--- cannot be read ends the reading
-abbrev pub passed : Outcome → ℕ → ℕ
-passed (message m n) left = n - 1
-passed end left = left
-passed (refused w) left = left
-
--- the same of what the reader answered, from its first byte on
-abbrev pub takenBy : Answer → ℕ → ℕ → ℕ
-takenBy aMessage taken left = taken
-takenBy End taken left = left
-takenBy (Refused w) taken left = left
-
-abbrev pub takenOf : Reading → ℕ → ℕ
-takenOf r left = takenBy (r .answer) (r .taken) left
-
--- what is found in the `left` bytes of s from `at` on, of which the first `skip` are passed over
-unfoldable pub found : List ℕ → ℕ → ℕ → ℕ → List Outcome
-found s at skip zero = []
-found s at zero (suc left) = readAt s at ∷ found s (suc at) (passed (readAt s at) left) left
-found s at (suc skip) (suc left) = found s (suc at) skip left
-
--- what is found from a place on
-abbrev pub foundFrom : List ℕ → ℕ → List Outcome
-foundFrom s at = found s at 0 (length s - at)
 
 -- ---- the replica
 
@@ -123,10 +95,6 @@ printout s =
     (printoutOf (getD s 0 0) (getD s 1 0) (foundFrom s shopBytes)))
 
 -- ---- its size
-
--- the bytes of the shortest message, a settlement
-abbrev pub leastMessage : ℕ
-leastMessage = 6
 
 -- at most so many messages are found, the last of which may be cut short
 abbrev pub mostMessages : ℕ

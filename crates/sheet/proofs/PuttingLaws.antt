@@ -30,21 +30,22 @@ use Rattle.wire.specs.declared.Message.{Message}
 use Rattle.wire.specs.declared.Reading.{Reading}
 use Rattle.wire.specs.declared.Answer.{Answer}
 use Rattle.wire.specs.declared.Answer.the-variants.{Message as aMessage, End, Refused}
-use Rattle.wire.specs.declared.Kind.{Kind}
-use Rattle.wire.specs.declared.Kind.the-variants.{Weak, Strong, Settlement}
-use Rattle.wire.specs.Layout.{kindNumber}
+use Rattle.wire.specs.declared.Subject.{Subject}
+use Rattle.wire.specs.declared.Subject.the-variants.{Request as aRequest, Settlement as aSettlement}
+use Rattle.wire.specs.Layout.{kindNumber, leastMessage}
 use Rattle.wire.specs.Message.{BusMessage, kindOf, said}
 use Rattle.wire.specs.Reader.{Outcome, message, end, refused, answered, readAt, refusalOf}
 use Rattle.sheet.specs.declared.Heard.{Heard}
 use Rattle.sheet.specs.declared.Ended.{Ended}
 use Rattle.wire.proofs.HeldLaws.{said-settlement, said-request}
 use Rattle.intake.specs.Intake.{callOf}
+use Rattle.intake.specs.Found.{takenOf, foundFrom}
 use Rattle.intake.proofs.ReadingLaws.{message-only, end-only, refused-only}
+use Rattle.intake.proofs.FoundLaws.{bytesOf, Takes, whole, all, takes, taken-within, one-found, none-found}
 use Rattle.creek.specs.History.{idled}
-use Rattle.printed.specs.Printout.{takenOf, after, afterAll, refusalIn, numberIn, lineOfMessage, lineFor, foundFrom, messageLines}
-use Rattle.printed.specs.Printout.{shopBytes, leastMessage, mostMessages, mostInput, closing, printoutOf, printout}
+use Rattle.printed.specs.Printout.{after, afterAll, refusalIn, numberIn, lineOfMessage, lineFor, messageLines}
+use Rattle.printed.specs.Printout.{shopBytes, mostMessages, mostInput, closing, printoutOf, printout}
 use Rattle.sheet.specs.Putting.{Stands, HeardOf, TakenIn, HeardAs, LinePut, AllPut}
-use Rattle.printed.proofs.FoundLaws.{bytesOf, Takes, whole, all, takes, taken-within, one-found, none-found}
 
 -- ---- a message is taken in
 
@@ -91,15 +92,10 @@ heard-message p r q h f t = record { heard = message-only r (λ o. HeardOf (mode
 
 -- ---- lines
 
-pub kind-small : (k : Kind) → kindNumber k < 2 ^ 16
-kind-small Weak = omega arith
-kind-small Strong = omega arith
-kind-small Settlement = omega arith
-
-number-by : (m : Message) (v : Bool) → m .settles ≡ v → numberIn (said m) ≡ m .request .number
+number-by : (m : Message) (x : Subject) → m .subject ≡ x → numberIn (said m) ≡ m .request .number
 unfolding numberIn
-number-by m true e = rw (said-settlement m e)
-number-by m false e = rw (said-request m e)
+number-by m aRequest e = rw (said-request m e)
+number-by m aSettlement e = rw (said-settlement m e)
 
 pub message-line : (place : ℕ) (m : Message) (kind refusal undone : ℕ) → kind ≡ kindNumber (kindOf (said m))
     → let n = m .request .number in
@@ -107,7 +103,7 @@ pub message-line : (place : ℕ) (m : Message) (kind refusal undone : ℕ) → k
 unfolding lineOfMessage
 message-line place m kind refusal undone e =
     let n = m .request .number in
-    let named = number-by m (m .settles) refl in
+    let named = number-by m (m .subject) refl in
     ap (λ (x : Number). messageLine place (kindNumber (kindOf (said m))) (x .panel .0) (x .event .0) refusal undone) named
     ∙ ap (λ (k : ℕ). messageLine place k (n .panel .0) (n .event .0) refusal undone) (sym e)
 

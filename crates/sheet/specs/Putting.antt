@@ -16,7 +16,8 @@ use Rattle.wire.specs.Message.{BusMessage}
 use Rattle.wire.specs.Reader.{Outcome, message, answered}
 use Rattle.sheet.specs.declared.Heard.{Heard}
 use Rattle.sheet.specs.declared.Ended.{Ended}
-use Rattle.printed.specs.Printout.{after, afterAll, refusalIn, undoneIn, lineOfMessage, lineFor, foundFrom, shopBytes}
+use Rattle.intake.specs.Found.{foundFrom}
+use Rattle.printed.specs.Printout.{after, afterAll, refusalIn, undoneIn, lineOfMessage, lineFor, shopBytes}
 use Rattle.printed.specs.Printout.{messageLines, closing, mostMessages, mostInput, mostPrinted, printout}
 
 -- q stands for the replica r

@@ -6,10 +6,15 @@
 use counters::Counters;
 use numbers::PanelNo;
 use replica::Core;
+use report::sizes::MOST_BOARD_BYTES;
+use report::sizes::MOST_MESSAGE_BYTES;
+use report::sizes::MOST_REGISTERS_BYTES;
+use report::sizes::MOST_TOTALS_BYTES;
 use request::refusal;
 use wire::Answer;
 use wire::Message;
 use wire::Reading;
+use wire::layout::LEAST_MESSAGE;
 ghost use mathlib.Core.Path.{_≡_};
 ghost use Prim.Native.Nat.{_+_, _*_, _≤_};
 ghost use lib.ListN.{length};
@@ -17,15 +22,22 @@ ghost use Rattle.report.specs.Sizes.{mostMessageBytes, mostTotalsBytes, mostReg
 ghost use Rattle.replica.specs.State.{packed};
 ghost use Rattle.replica.specs.Model.{model, Inv};
 ghost use Rattle.wire.specs.Message.{said};
-ghost use Rattle.printed.specs.Printout.{takenOf, shopBytes, mostMessages, mostInput, mostPrinted};
+ghost use Rattle.intake.specs.Found.{takenOf};
+ghost use Rattle.printed.specs.Printout.{shopBytes, mostMessages, mostInput, mostPrinted};
 ghost use Rattle.sheet.specs.Putting.{TakenIn, HeardAs, MessageLinePut, LinePut, AllPut};
 ghost use Rattle.sheet.specs.Putting.{ClosingAsks, ClosingPut, Opens, PrintoutPut, Printed};
 
 // At most so many bytes of the input are read.
 pub const MOST_INPUT: usize = 65536;
 
+// At most so many messages are found in them, the last of which may be cut short.
+const MOST_MESSAGES: usize = MOST_INPUT / LEAST_MESSAGE + 1;
+
 // The most bytes of a printout.
-pub const MOST_PRINTED: usize = 438473;
+pub const MOST_PRINTED: usize = MOST_BOARD_BYTES
+    + MOST_MESSAGES * MOST_MESSAGE_BYTES
+    + MOST_TOTALS_BYTES
+    + MOST_REGISTERS_BYTES;
 
 // P and the own panel, one byte each.
 const SHOP_BYTES: usize = 2;

@@ -8,14 +8,15 @@ use Rattle.numbers.specs.Numbers.{numbered}
 use Rattle.request.specs.Operations.{codeSet, codeClaim}
 use Rattle.request.specs.Refusal as refusal
 use Rattle.sets.specs.Sets.{emptySet, setOf}
-use Rattle.wire.specs.declared.Kind.the-variants.{Weak, Strong, Settlement}
 use Rattle.wire.specs.Integers.{integerAt, integerBytes}
-use Rattle.wire.specs.Layout.{layout, size, sizeOf, decode, encode, fieldsAt}
-use Rattle.wire.specs.Message.{BusMessage, request, settlement, kindOf, contents, fieldsOf, bytesOf, messageFrom}
-use Rattle.wire.specs.Reader.{message, end, refused, lengthAt, kindAt, spareAt, refusalAs, readAs, readAt}
+use Rattle.wire.specs.Layout.{kinds, kindWith, layout, widthsWith, leastSize, mostSize, decode, encode}
+use Rattle.wire.specs.Message.{BusMessage, request, settlement, kindOf, frontOf, runOf, behindOf, contents}
+use Rattle.wire.specs.Message.{widthsOf, sizeOf, fieldsOf, bytesOf, messageFrom}
+use Rattle.wire.specs.Reader.{message, end, refused, lengthAt, kindAt, runAt, fieldsAt, spareSet, refusalAs, readAs, readAt}
 
-lengths : map sizeOf (Weak ∷ Strong ∷ Settlement ∷ []) ≡ 18 ∷ 82 ∷ 6 ∷ []
-unfolding sizeOf layout size
+-- of each kind the least and the most bytes of a message
+lengths : map leastSize kinds ++ map mostSize kinds ≡ (18 ∷ 82 ∷ 6 ∷ []) ++ (18 ∷ 82 ∷ 6 ∷ [])
+unfolding leastSize mostSize widthsWith layout
 lengths = refl
 
 -- ---- messages of document 01's printout
@@ -56,7 +57,7 @@ abbrev settledBytes : List ℕ
 settledBytes = 6 ∷ 0 ∷ 3 ∷ 0 ∷ 1 ∷ 2 ∷ []
 
 written : map bytesOf (weak ∷ strong ∷ settled ∷ []) ≡ weakBytes ∷ strongBytes ∷ settledBytes ∷ []
-unfolding bytesOf kindOf fieldsOf contents layout encode integerBytes sizeOf size
+unfolding bytesOf kindOf fieldsOf contents frontOf runOf behindOf widthsOf widthsWith layout encode integerBytes sizeOf
 written = refl
 
 -- ---- read, the one behind the other, and then the end, also past it
@@ -65,22 +66,25 @@ abbrev run : List ℕ
 run = weakBytes ++ strongBytes ++ settledBytes
 
 read : map (readAt run) (0 ∷ 18 ∷ 100 ∷ 106 ∷ 107 ∷ []) ≡ message weak 18 ∷ message strong 82 ∷ message settled 6 ∷ end ∷ end ∷ []
-unfolding readAt readAs refusalAs lengthAt kindAt spareAt messageFrom fieldsAt layout decode integerAt sizeOf size
+unfolding readAt readAs refusalAs lengthAt kindAt kindWith runAt fieldsAt spareSet messageFrom leastSize mostSize widthsWith layout decode
+    integerAt
 read = refl
 
--- ---- refused: three bytes; kind 0, its length wrong as well; a kind 1 message whose length says 19, 17 bytes of one, and one
--- whose spare byte is 1
+-- ---- refused: three bytes; kind 0, its length wrong as well; a kind 1 message whose length says 19, one whose length says 17, 17 bytes
+-- of one, and one whose spare byte is 1
 
 refusedRuns : List (List ℕ)
 refusedRuns =
     (18 ∷ 0 ∷ 1 ∷ [])
     ∷ (19 ∷ 0 ∷ 0 ∷ 0 ∷ [])
     ∷ (19 ∷ 0 ∷ 1 ∷ replicate 14 0)
+    ∷ (17 ∷ 0 ∷ 1 ∷ replicate 14 0)
     ∷ (18 ∷ 0 ∷ 1 ∷ replicate 14 0)
     ∷ (18 ∷ 0 ∷ 1 ∷ replicate 10 0 ++ (1 ∷ replicate 4 0))
     ∷ []
 
 not-read : map (λ (s : List ℕ). readAt s 0) refusedRuns
-    ≡ map refused (refusal.cutShort ∷ refusal.unknownKind ∷ refusal.badLength ∷ refusal.cutShort ∷ refusal.spareSet ∷ [])
-unfolding refusedRuns readAt readAs refusalAs lengthAt kindAt spareAt fieldsAt layout decode integerAt sizeOf size
+    ≡ map refused (refusal.cutShort ∷ refusal.unknownKind ∷ refusal.badLength ∷ refusal.badLength ∷ refusal.cutShort ∷ refusal.spareSet ∷ [])
+unfolding refusedRuns readAt readAs refusalAs lengthAt kindAt kindWith runAt fieldsAt spareSet leastSize mostSize widthsWith layout decode
+    integerAt
 not-read = refl

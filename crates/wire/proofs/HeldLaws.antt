@@ -1,10 +1,11 @@
--- Laws of messages as the code holds them: which message one says, and that its fields fit.
+-- Laws of messages as the code holds them: which message one says, what its bytes are, and that its fields fit.
 use Prim.Native.Nat.{ℕ, zero, suc, _^_, _≤_, _<_}
-use mathlib.Core.Path.{_≡_, refl, ap, _∙_}
+use native.Mathlib.Omega.{arith}
+use mathlib.Core.Path.{_≡_, refl, ap}
 use mathlib.Core.Bool.{Bool, true, false, cond}
 use mathlib.Core.List.{List, [], _∷_, _++_, map}
 use borrow.Author.Needs.{needs}
-use lib.Dec.{lit<}
+use lib.Dec.{lit<, lit≤}
 use lib.ListN.{getD}
 use mir.Val.{Val}
 use denote.Array.{each}
@@ -14,13 +15,14 @@ use Rattle.request.specs.declared.Request.{Request}
 use Rattle.numbers.specs.Numbers.{mostPanels, mostEvents}
 use Rattle.sets.specs.Sets.{Words}
 use Rattle.wire.specs.declared.Message.{Message}
+use Rattle.wire.specs.declared.Subject.{Subject}
+use Rattle.wire.specs.declared.Subject.the-variants.{Request as aRequest, Settlement as aSettlement}
 use Rattle.wire.specs.declared.Kind.{Kind}
-use Rattle.wire.specs.declared.Kind.the-variants.{Weak, Strong}
-use Rattle.wire.specs.Layout.{numberWidths, bodyWidths, contextWidths, layout, size, sizeOf, Within}
-use Rattle.wire.specs.Message.{BusMessage, request, settlement, kindOf, numberFields, bodyFields, contents, fieldsOf}
-use Rattle.wire.specs.Message.{Fits, held, said}
+use Rattle.wire.specs.declared.Kind.the-variants.{Weak, Strong, Settlement}
+use Rattle.wire.specs.Layout.{numberWidths, bodyWidths, contextWidths, kindNumber, layout, widthsWith, leastSize, size, encode, Within}
+use Rattle.wire.specs.Message.{BusMessage, request, settlement, kindOf, numberFields, bodyFields, frontOf, runOf, behindOf, contents}
+use Rattle.wire.specs.Message.{widthsOf, sizeOf, fieldsOf, bytesOf, Fits, held, about, said}
 use Rattle.parts.proofs.WidthLaws.{words-within}
-use Rattle.wire.proofs.MessageLaws.{weak-least, kind-by, fieldsBy}
 
 -- ---- the message that is held
 
@@ -31,24 +33,46 @@ said-held (request r) = refl
 said-held (settlement n) = refl
 
 module _ (m : Message) where
-  pub said-settlement : m .settles ≡ true → said m ≡ settlement (m .request .number)
+  pub said-settlement : m .subject ≡ aSettlement → said m ≡ settlement (m .request .number)
   unfolding said
-  said-settlement e = rw e
+  said-settlement e = ap (λ (x : Subject). about x (m .request)) e
 
-  pub said-request : m .settles ≡ false → said m ≡ request (m .request)
+  pub said-request : m .subject ≡ aRequest → said m ≡ request (m .request)
   unfolding said
-  said-request e = rw e
+  said-request e = ap (λ (x : Subject). about x (m .request)) e
 
--- a request of kind k, by its strength: it is no shorter than a weak one
-module _ (m : Message) (k : Kind) (known : k ≡ kindOf (said m)) (asks : m .settles ≡ false) where
-  pub kind-said : (b : Bool) → m .request .asked .strong ≡ b → k ≡ cond b Strong Weak
-  kind-said b e = known ∙ ap kindOf (said-request m asks) ∙ kind-by (m .request) b e
+-- ---- what is held has no run
 
-  pub weak-room : sizeOf Weak ≤ sizeOf k
-  weak-room = rw (kind-said (m .request .asked .strong) refl) (weak-least (m .request .asked .strong))
+-- it has as many bytes as its kind without a run
+pub runless-size : (m : BusMessage) → sizeOf m ≡ leastSize (kindOf m)
+unfolding sizeOf widthsOf leastSize runOf
+runless-size (request r) = refl
+runless-size (settlement n) = refl
 
-  pub strong-size : m .request .asked .strong ≡ true → sizeOf k ≡ sizeOf Strong
-  strong-size e = ap sizeOf (kind-said true e)
+-- what stands behind length and kind in a message of this kind that names r
+abbrev pub contentsFor : Kind → Request → List ℕ
+contentsFor Weak r = numberFields (r .number) ++ bodyFields r
+contentsFor Strong r = numberFields (r .number) ++ (bodyFields r ++ r .context .words)
+contentsFor Settlement r = numberFields (r .number)
+
+-- the bytes of a message of this kind and size that names r
+abbrev pub bytesFor : Kind → ℕ → Request → List ℕ
+bytesFor k n r = encode (widthsWith k 0) (n ∷ kindNumber k ∷ contentsFor k r)
+
+pub said-bytes : (m : Message) → bytesOf (said m) ≡ bytesFor (kindOf (said m)) (sizeOf (said m)) (m .request)
+unfolding said bytesOf widthsOf fieldsOf runOf contents frontOf behindOf kindOf
+said-bytes m = by (m .subject) (m .request)
+  where
+    of-request : (r : Request) (b : Bool) (n : ℕ)
+        → encode (widthsWith (cond b Strong Weak) 0)
+        (n ∷ kindNumber (cond b Strong Weak) ∷ ((numberFields (r .number) ++ bodyFields r) ++ cond b (r .context .words) []))
+        ≡ bytesFor (cond b Strong Weak) n r
+    of-request r true n = refl
+    of-request r false n = refl
+
+    by : (x : Subject) (r : Request) → bytesOf (about x r) ≡ bytesFor (kindOf (about x r)) (sizeOf (about x r)) r
+    by aRequest r = of-request r (r .asked .strong) (sizeOf (request r))
+    by aSettlement r = refl
 
 -- ---- its fields fit
 
@@ -65,8 +89,8 @@ pub record Held (r : Request) : Type 0 where
 
 module _ (r : Request) (h : Held r) where
   pub request-fits : Fits (request r)
-  unfolding kindOf layout fieldsOf contents sizeOf size
-  request-fits = record { fields = by (r .asked .strong); words = h .words }
+  unfolding kindOf layout widthsWith widthsOf fieldsOf contents frontOf runOf behindOf sizeOf
+  request-fits = record { fields = by (r .asked .strong); run = no-run (r .asked .strong); words = h .words }
     where
       body : (ws vs : List ℕ) → Within ws vs → Within (numberWidths ++ bodyWidths ++ ws) (numberFields (r .number) ++ bodyFields r ++ vs)
       body ws vs rest = (h .panel, (h .event, (h .clock, (h .code, (h .first, (h .second, (lit< tt, (h .amount, rest))))))))
@@ -74,22 +98,27 @@ module _ (r : Request) (h : Held r) where
       context : Within contextWidths (r .context .words)
       context = words-within mostPanels (r .context .words) (h .words .count) (h .words .small)
 
-      by : (b : Bool) → Within (layout (cond b Strong Weak)) (fieldsBy r b)
+      by : (b : Bool)
+          → Within (widthsWith (cond b Strong Weak) 0) (size (widthsWith (cond b Strong Weak) 0) ∷ kindNumber (cond b Strong Weak)
+          ∷ ((numberFields (r .number) ++ bodyFields r) ++ cond b (r .context .words) []))
       by true = (lit< tt, (lit< tt, body contextWidths (r .context .words) context))
       by false = (lit< tt, (lit< tt, body [] [] tt))
 
+      no-run : (b : Bool) → 0 ≤ layout (cond b Strong Weak) .mostRun
+      no-run b = omega arith
+
   pub settlement-fits : Fits (settlement (r .number))
-  unfolding kindOf layout fieldsOf contents sizeOf size
-  settlement-fits = record { fields = (lit< tt, (lit< tt, (h .panel, (h .event, tt)))); words = tt }
+  unfolding kindOf layout widthsWith widthsOf fieldsOf contents frontOf runOf behindOf sizeOf
+  settlement-fits = record { fields = (lit< tt, (lit< tt, (h .panel, (h .event, tt)))); run = lit≤ tt; words = tt }
 
 -- no field held is wider than in its message
 pub said-fits : (m : Message) → Held (m .request) → Fits (said m)
 unfolding said
-said-fits m h = by (m .settles)
+said-fits m h = by (m .subject)
   where
-    by : (b : Bool) → Fits (cond b (settlement (m .request .number)) (request (m .request)))
-    by true = settlement-fits (m .request) h
-    by false = request-fits (m .request) h
+    by : (x : Subject) → Fits (about x (m .request))
+    by aRequest = request-fits (m .request) h
+    by aSettlement = settlement-fits (m .request) h
 
 -- ---- for the crate below
 

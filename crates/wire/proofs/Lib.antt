@@ -1,5 +1,6 @@
 -- The laws of the definitions in `specs/`, for this crate's proofs and for the crates above it.
-pub mod MessageLaws
+pub mod LayoutLaws
+pub mod KindLaws
 pub mod HeldLaws
 pub mod ReaderLaws
 pub mod WriterLaws

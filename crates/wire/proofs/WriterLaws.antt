@@ -12,20 +12,26 @@ use Rattle.request.specs.Refusal as refusal
 use Rattle.wire.specs.declared.Message.{Message}
 use Rattle.wire.specs.declared.Kind.{Kind}
 use Rattle.wire.specs.declared.Kind.the-variants.{Weak, Strong, Settlement}
-use Rattle.wire.specs.Layout.{kindNumber, headWidths, numberWidths, bodyWidths, contextWidths, layout, size, sizeOf, encode}
-use Rattle.wire.specs.Message.{BusMessage, kindOf, numberFields, bodyFields, contents, fieldsOf, bytesOf}
+use Rattle.wire.specs.Layout.{headWidths, numberWidths, bodyWidths, contextWidths, headSize, size, encode}
+use Rattle.wire.specs.Layout.{kindNumber, layout, widthsWith, mostSize, longestMessage}
+use Rattle.wire.specs.Message.{BusMessage, kindOf, numberFields, bodyFields, runOf, widthsOf, sizeOf, fieldsOf, bytesOf}
 use Rattle.wire.specs.Message.{weakWithContext, Fits, said}
-use Rattle.wire.specs.Layout.{headSize}
 use Rattle.wire.specs.Writer.{writeRefusal, writeAnswer, afterWrite}
-use Rattle.wire.proofs.MessageLaws.{fieldsBy, bytes-by}
-use Rattle.wire.proofs.HeldLaws.{said-settlement, said-request, kind-said}
 use Rattle.parts.specs.Widths.{settlementWidths, weakWidths}
 use Rattle.parts.proofs.WidthLaws.{length-encode, length-within, fields-then}
+use Rattle.wire.proofs.LayoutLaws.{size-with}
+use Rattle.wire.proofs.KindLaws.{kind-laws}
+use Rattle.wire.proofs.HeldLaws.{bytesFor, said-bytes}
 
--- a message has as many bytes as its kind says
-pub length-bytes : (m : BusMessage) → Fits m → length (bytesOf m) ≡ sizeOf (kindOf m)
+-- a message has as many bytes as its size says
+pub length-bytes : (m : BusMessage) → Fits m → length (bytesOf m) ≡ sizeOf m
 unfolding bytesOf sizeOf
-length-bytes m h = length-encode (layout (kindOf m)) (fieldsOf m) (length-within (layout (kindOf m)) (fieldsOf m) (h .fields))
+length-bytes m h = length-encode (widthsOf m) (fieldsOf m) (length-within (widthsOf m) (fieldsOf m) (h .fields))
+
+-- and no more than the longest
+pub size-most : (m : BusMessage) → Fits m → sizeOf m ≤ longestMessage
+unfolding sizeOf widthsOf mostSize
+size-most m h = omega (arith, size-with (kindOf m) (length (runOf m)), h .run, kind-laws (kindOf m) .longest)
 
 -- ---- the writer, case by case
 
@@ -36,14 +42,14 @@ module _ (m : BusMessage) (out : List ℕ) where
   context-refused e = (rw e, rw e)
 
   module _ (e : weakWithContext m ≡ false) where
-    pub room-refused : length out < sizeOf (kindOf m)
+    pub room-refused : length out < sizeOf m
         → (writeAnswer m (length out) ≡ record { refusal = refusal.noRoom; bytes = 0 }) × (afterWrite m out ≡ out)
     unfolding writeAnswer afterWrite writeRefusal
     room-refused h = (simp (e, lt-ltb _ _ h), simp (e, lt-ltb _ _ h))
 
-    pub written : sizeOf (kindOf m) ≤ length out
-        → (writeAnswer m (length out) ≡ record { refusal = refusal.accepted; bytes = sizeOf (kindOf m) })
-        × (afterWrite m out ≡ bytesOf m ++ drop (sizeOf (kindOf m)) out)
+    pub written : sizeOf m ≤ length out
+        → (writeAnswer m (length out) ≡ record { refusal = refusal.accepted; bytes = sizeOf m })
+        × (afterWrite m out ≡ bytesOf m ++ drop (sizeOf m) out)
     unfolding writeAnswer afterWrite writeRefusal
     written h = (simp (e, le-ltb _ _ h), simp (e, le-ltb _ _ h))
 
@@ -57,59 +63,49 @@ accepted-sendable m room ok = go (weakWithContext m) _ ok
     go false rest e = refl
 
 -- the bytes put at the front
-pub bytes-put : (m : BusMessage) (out : List ℕ) → Fits m → sizeOf (kindOf m) ≤ length out
-    → sets out 0 (bytesOf m) ≡ bytesOf m ++ drop (sizeOf (kindOf m)) out
+pub bytes-put : (m : BusMessage) (out : List ℕ) → Fits m → sizeOf m ≤ length out
+    → sets out 0 (bytesOf m) ≡ bytesOf m ++ drop (sizeOf m) out
 bytes-put m out fits h =
     let l = length-bytes m fits in
     sets-eq (bytesOf m) out 0 (omega arith) ∙ rw (l, zero-add)
 
 -- ---- the bytes of a message from its parts
 
-abbrev headFields : Kind → List ℕ
-headFields k = sizeOf k ∷ kindNumber k ∷ []
-
--- of the message that m holds, whose kind is k, length and kind are written, and then panel and event
-module _ (m : Message) (k : Kind) (known : k ≡ kindOf (said m)) (out out₁ out₂ : List ℕ)
-    (head : out₁ ≡ sets out 0 (encode headWidths (headFields k)))
+-- of the message that m holds, whose kind is k and whose size is n, length and kind are written, and then panel and event
+module _ (m : Message) (k : Kind) (n : ℕ) (known : k ≡ kindOf (said m)) (sized : n ≡ sizeOf (said m)) (out out₁ out₂ : List ℕ)
+    (head : out₁ ≡ sets out 0 (encode headWidths (n ∷ kindNumber k ∷ [])))
     (number : out₂ ≡ sets out₁ headSize (encode numberWidths (numberFields (m .request .number))))
   where
-    head-of : (k′ : Kind) → k ≡ k′ → out₁ ≡ sets out 0 (encode headWidths (headFields k′))
-    head-of k′ e = head ∙ ap (λ (j : Kind). sets out 0 (encode headWidths (headFields j))) e
+    head-of : (k′ : Kind) → k ≡ k′ → out₁ ≡ sets out 0 (encode headWidths (n ∷ kindNumber k′ ∷ []))
+    head-of k′ e = head ∙ ap (λ (j : Kind). sets out 0 (encode headWidths (n ∷ kindNumber j ∷ []))) e
+
+    bytes-are : (k′ : Kind) → k ≡ k′ → sets out 0 (bytesFor k′ n (m .request)) ≡ sets out 0 (bytesOf (said m))
+    bytes-are k′ e =
+        ap (λ (j : Kind). sets out 0 (bytesFor j n (m .request))) (sym e ∙ known)
+        ∙ ap (λ (z : ℕ). sets out 0 (bytesFor (kindOf (said m)) z (m .request))) sized
+        ∙ ap (λ (l : List ℕ). sets out 0 l) (sym (said-bytes m))
 
     -- that is a settlement
-    pub settlement-put : m .settles ≡ true → out₂ ≡ sets out 0 (bytesOf (said m))
-    unfolding bytesOf kindOf layout fieldsOf contents size
+    pub settlement-put : k ≡ Settlement → out₂ ≡ sets out 0 (bytesOf (said m))
+    unfolding widthsWith layout
     settlement-put e =
-        let is = said-settlement m e in
-        fields-then out out₁ out₂ 0 headWidths _ numberWidths _ refl (head-of Settlement (known ∙ ap kindOf is)) number
-        ∙ ap (λ (b : BusMessage). sets out 0 (bytesOf b)) (sym is)
+        fields-then out out₁ out₂ 0 headWidths _ numberWidths _ refl (head-of Settlement e) number ∙ bytes-are Settlement e
 
     -- with the body, a weak request
-    module _ (asks : m .settles ≡ false) (out₃ : List ℕ)
-        (body : out₃ ≡ sets out₂ (size settlementWidths) (encode bodyWidths (bodyFields (m .request))))
-      where
-        bytes-are : (b : Bool) → m .request .asked .strong ≡ b
-            → sets out 0 (encode (layout (cond b Strong Weak)) (fieldsBy (m .request) b)) ≡ sets out 0 (bytesOf (said m))
-        bytes-are b e =
-            sym (ap (λ (x : BusMessage). sets out 0 (bytesOf x)) (said-request m asks)
-            ∙ ap (λ (l : List ℕ). sets out 0 l) (bytes-by (m .request) b e))
+    module _ (out₃ : List ℕ) (body : out₃ ≡ sets out₂ (size settlementWidths) (encode bodyWidths (bodyFields (m .request)))) where
+      pub weak-put : k ≡ Weak → out₃ ≡ sets out 0 (bytesOf (said m))
+      unfolding widthsWith layout
+      weak-put e =
+          fields-then out out₁ out₃ 0 headWidths _ (numberWidths ++ bodyWidths) _ refl (head-of Weak e)
+          (fields-then out₁ out₂ out₃ headSize numberWidths _ bodyWidths _ refl number body)
+          ∙ bytes-are Weak e
 
-        pub weak-put : m .request .asked .strong ≡ false → out₃ ≡ sets out 0 (bytesOf (said m))
-        unfolding layout size sizeOf
-        weak-put e =
-            fields-then out out₁ out₃ 0 headWidths _ (numberWidths ++ bodyWidths) _ refl
-            (head-of Weak (kind-said m k known asks false e))
-            (fields-then out₁ out₂ out₃ headSize numberWidths _ bodyWidths _ refl number body)
-            ∙ bytes-are false e
-
-        -- with the context, a strong one
-        pub strong-put : m .request .asked .strong ≡ true → (out₄ : List ℕ)
-            → out₄ ≡ sets out₃ (size weakWidths) (encode contextWidths (m .request .context .words))
-            → out₄ ≡ sets out 0 (bytesOf (said m))
-        unfolding layout size sizeOf
-        strong-put e out₄ context =
-            fields-then out out₁ out₄ 0 headWidths _ (numberWidths ++ bodyWidths ++ contextWidths) _ refl
-            (head-of Strong (kind-said m k known asks true e))
-            (fields-then out₁ out₂ out₄ headSize numberWidths _ (bodyWidths ++ contextWidths) _ refl number
-            (fields-then out₂ out₃ out₄ (size settlementWidths) bodyWidths _ contextWidths _ refl body context))
-            ∙ bytes-are true e
+      -- with the context, a strong one
+      pub strong-put : k ≡ Strong → (out₄ : List ℕ) → out₄ ≡ sets out₃ (size weakWidths) (encode contextWidths (m .request .context .words))
+          → out₄ ≡ sets out 0 (bytesOf (said m))
+      unfolding widthsWith layout
+      strong-put e out₄ context =
+          fields-then out out₁ out₄ 0 headWidths _ (numberWidths ++ bodyWidths ++ contextWidths) _ refl (head-of Strong e)
+          (fields-then out₁ out₂ out₄ headSize numberWidths _ (bodyWidths ++ contextWidths) _ refl number
+          (fields-then out₂ out₃ out₄ (size settlementWidths) bodyWidths _ contextWidths _ refl body context))
+          ∙ bytes-are Strong e

@@ -1,13 +1,23 @@
--- The layout of bus messages, document 01's table: for each kind its number and the widths of its fields in order. Sizes, reading and
--- writing follow from it. The widths, and what follows for any widths, are those of `parts`, passed on.
-use Prim.Native.Nat.{ℕ}
-use mathlib.Core.List.{List}
+-- The layout of bus messages, document 01's table: for each kind its number and its fields in order. Sizes, reading and writing follow
+-- from it. The widths, and what follows for any widths, are those of `parts`, passed on.
+use Prim.Native.Nat.{ℕ, _+_}
+use mathlib.Core.List.{List, [], _∷_, _++_}
+use mathlib.Core.Option.{Option}
+use lib.Dec.{eqb}
+use lib.ListN.{replicate}
+use Rattle.lists.specs.Lists.{find}
+use Rattle.parts.specs.Widths.{settlementWidths, strongWidths}
 use Rattle.wire.specs.declared.Kind.{Kind}
 use Rattle.wire.specs.declared.Kind.the-variants.{Weak, Strong, Settlement}
-use Rattle.parts.specs.Widths.{settlementWidths, weakWidths, strongWidths}
-unfoldable pub use Rattle.parts.specs.Widths.{size, decode, encode}
-pub use Rattle.parts.specs.Widths.{headWidths, numberWidths, bodyWidths, wordWidth, contextWidths, headSize, Within}
-pub use Rattle.parts.specs.Widths.{lengthField, kindField, spareField, contextField}
+unfoldable pub use Rattle.parts.specs.Widths.{decode, encode}
+pub use Rattle.parts.specs.Widths.{headWidths, numberWidths, bodyWidths, byteWidth, wordWidth, contextWidths, size, Within}
+pub use Rattle.parts.specs.Widths.{lengthField, kindField, spareField, contextField, headFields, headSize}
+
+-- ---- the table
+
+-- all kinds
+abbrev pub kinds : List Kind
+kinds = Weak ∷ Strong ∷ Settlement ∷ []
 
 -- document 01's number of each kind
 abbrev pub kindNumber : Kind → ℕ
@@ -15,18 +25,45 @@ kindNumber Weak = 1
 kindNumber Strong = 2
 kindNumber Settlement = 3
 
--- the fields of each kind
-unfoldable pub layout : Kind → List ℕ
-layout Weak = weakWidths
-layout Strong = strongWidths
-layout Settlement = settlementWidths
+-- the fields of a kind behind length and kind: at most one run of bytes stands among them
+pub record Layout : Type 0 where
+  -- the widths of the fields in front of the run
+  pub front : List ℕ
+  -- the most bytes of the run
+  pub mostRun : ℕ
+  -- the widths of the fields behind it
+  pub behind : List ℕ
+  -- the spare bytes, by their places among all fields, in front of the run
+  pub spares : List ℕ
+
+unfoldable pub layout : Kind → Layout
+layout Weak = record { front = numberWidths ++ bodyWidths; mostRun = 0; behind = []; spares = spareField ∷ [] }
+layout Strong = record { front = numberWidths ++ bodyWidths; mostRun = 0; behind = contextWidths; spares = spareField ∷ [] }
+layout Settlement = record { front = numberWidths; mostRun = 0; behind = []; spares = [] }
 
 -- ---- what follows for a kind
 
--- the length of a message of this kind
-unfoldable pub sizeOf : Kind → ℕ
-sizeOf k = size (layout k)
+-- the kind of that number, where there is one
+unfoldable pub kindWith : ℕ → Option Kind
+kindWith n = find (λ k. eqb n (kindNumber k)) kinds
 
--- the values of the fields of a message of this kind at a place
-unfoldable pub fieldsAt : Kind → List ℕ → ℕ → List ℕ
-fieldsAt k s at = decode (layout k) s at
+-- the widths of all fields of a message of this kind whose run has n bytes
+unfoldable pub widthsWith : Kind → ℕ → List ℕ
+widthsWith k n = headWidths ++ (layout k .front ++ (replicate n byteWidth ++ layout k .behind))
+
+-- the bytes of a message of this kind without a run, and with the longest one
+unfoldable pub leastSize : Kind → ℕ
+leastSize k = size (widthsWith k 0)
+
+unfoldable pub mostSize : Kind → ℕ
+mostSize k = leastSize k + layout k .mostRun
+
+-- ---- the shortest message and the longest one, over all kinds
+
+-- the bytes of a settlement
+abbrev pub leastMessage : ℕ
+leastMessage = size settlementWidths
+
+-- the bytes of a strong request
+abbrev pub longestMessage : ℕ
+longestMessage = size strongWidths

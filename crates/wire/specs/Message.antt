@@ -1,9 +1,9 @@
 -- Bus messages, the fields they have, and the form in which the code holds them. The fields of a number and of a body are those of
 -- `parts`, passed on.
-use Prim.Native.Nat.{ℕ}
+use Prim.Native.Nat.{ℕ, _≤_}
 use mathlib.Core.Bool.{Bool, true, false, not, _&&_, cond}
 use mathlib.Core.List.{List, [], _∷_, _++_}
-use lib.ListN.{drop}
+use lib.ListN.{length, drop}
 use Rattle.numbers.specs.declared.Number.{Number}
 use Rattle.sets.specs.declared.Context.{Context}
 use Rattle.request.specs.declared.Request.{Request}
@@ -12,7 +12,9 @@ use Rattle.sets.specs.Sets.{emptySet, setOf, isEmpty, Words}
 use Rattle.wire.specs.declared.Message.{Message}
 use Rattle.wire.specs.declared.Kind.{Kind}
 use Rattle.wire.specs.declared.Kind.the-variants.{Weak, Strong, Settlement}
-use Rattle.wire.specs.Layout.{kindNumber, layout, encode, sizeOf, Within, contextField}
+use Rattle.wire.specs.declared.Subject.{Subject}
+use Rattle.wire.specs.declared.Subject.the-variants.{Request as aRequest, Settlement as aSettlement}
+use Rattle.wire.specs.Layout.{kindNumber, layout, widthsWith, size, encode, Within, contextField}
 pub use Rattle.parts.specs.Contents.{spareByte, numberFields, bodyFields, numberFrom, requestFrom}
 
 -- a bus message: a request, weak or strong, or the settlement of a number
@@ -27,22 +29,40 @@ kindOf (settlement n) = Settlement
 
 -- ---- the fields of a message, in the order of its layout
 
--- the words of a strong request's context
-abbrev pub contextFields : Request → List ℕ
-contextFields r = cond (r .asked .strong) (r .context .words) []
+-- those in front of the run, behind length and kind
+unfoldable pub frontOf : BusMessage → List ℕ
+frontOf (request r) = numberFields (r .number) ++ bodyFields r
+frontOf (settlement n) = numberFields n
+
+-- the bytes of its run
+unfoldable pub runOf : BusMessage → List ℕ
+runOf (request r) = []
+runOf (settlement n) = []
+
+-- those behind the run: the words of a strong request's context
+unfoldable pub behindOf : BusMessage → List ℕ
+behindOf (request r) = cond (r .asked .strong) (r .context .words) []
+behindOf (settlement n) = []
 
 -- what stands after the first four bytes
 unfoldable pub contents : BusMessage → List ℕ
-contents (request r) = numberFields (r .number) ++ bodyFields r ++ contextFields r
-contents (settlement n) = numberFields n
+contents m = frontOf m ++ (runOf m ++ behindOf m)
+
+-- the widths of all fields
+unfoldable pub widthsOf : BusMessage → List ℕ
+widthsOf m = widthsWith (kindOf m) (length (runOf m))
+
+-- the bytes that a message has
+unfoldable pub sizeOf : BusMessage → ℕ
+sizeOf m = size (widthsOf m)
 
 -- all fields, length and kind first
 unfoldable pub fieldsOf : BusMessage → List ℕ
-fieldsOf m = sizeOf (kindOf m) ∷ kindNumber (kindOf m) ∷ contents m
+fieldsOf m = sizeOf m ∷ kindNumber (kindOf m) ∷ contents m
 
 -- the bytes of a message
 unfoldable pub bytesOf : BusMessage → List ℕ
-bytesOf m = encode (layout (kindOf m)) (fieldsOf m)
+bytesOf m = encode (widthsOf m) (fieldsOf m)
 
 -- ---- the message with given fields
 
@@ -64,22 +84,28 @@ abbrev pub ContextWords : BusMessage → Type 0
 ContextWords (request r) = Words (r .context)
 ContextWords (settlement n) = Unit {0}
 
--- no field held is wider than in its message
+-- no field held is wider than in its message, and the run is not longer than its kind has it
 pub record Fits (m : BusMessage) : Type 0 where
-  pub fields : Within (layout (kindOf m)) (fieldsOf m)
+  pub fields : Within (widthsOf m) (fieldsOf m)
+  pub run : length (runOf m) ≤ layout (kindOf m) .mostRun
   pub words : ContextWords m
 
 -- ---- as the code holds them
 
 -- what is held for a message
 unfoldable pub held : BusMessage → Message
-held (request r) = record { settles = false; request = r }
-held (settlement n) = record { settles = true; request = bareRequest n }
+held (request r) = record { subject = aRequest; request = r }
+held (settlement n) = record { subject = aSettlement; request = bareRequest n }
 
 -- zeros, where there is no message
 unfoldable pub noMessage : Message
-noMessage = record { settles = false; request = noRequest }
+noMessage = record { subject = aRequest; request = noRequest }
+
+-- the message about that subject that names r
+abbrev pub about : Subject → Request → BusMessage
+about aRequest r = request r
+about aSettlement r = settlement (r .number)
 
 -- the message that is held
 unfoldable pub said : Message → BusMessage
-said m = cond (m .settles) (settlement (m .request .number)) (request (m .request))
+said m = about (m .subject) (m .request)

@@ -1,16 +1,18 @@
 -- What the reader answers at a place of a run of bytes: a message, the end, or a refusal.
-use Prim.Native.Nat.{ℕ, _-_}
-use mathlib.Core.Bool.{not, cond}
+use Prim.Native.Nat.{ℕ, _-_, _≤_}
+use mathlib.Core.Path.{_≡_}
+use mathlib.Core.Bool.{Bool, false, not, cond}
 use mathlib.Core.List.{List}
+use mathlib.Core.Option.{Option, none, some}
 use lib.ListN.{getD, length}
 use lib.Dec.{ltb, leb, eqb}
+use Rattle.lists.specs.Lists.{somePasses}
 use Rattle.request.specs.Refusal as refusal
 use Rattle.wire.specs.declared.Answer.{Answer}
 use Rattle.wire.specs.declared.Answer.the-variants.{Message as aMessage, End, Refused}
 use Rattle.wire.specs.declared.Reading.{Reading}
 use Rattle.wire.specs.declared.Kind.{Kind}
-use Rattle.wire.specs.declared.Kind.the-variants.{Weak, Strong, Settlement}
-use Rattle.wire.specs.Layout.{kindNumber, headWidths, headSize, decode, sizeOf, fieldsAt, lengthField, kindField, spareField}
+use Rattle.wire.specs.Layout.{layout, kindWith, widthsWith, leastSize, mostSize, headWidths, headSize, decode, lengthField, kindField}
 use Rattle.wire.specs.Message.{BusMessage, spareByte, messageFrom, held, noMessage}
 
 -- document 01's number for each answer: a refusal's own, and 0 for the others
@@ -43,22 +45,43 @@ lengthAt s at = getD (decode headWidths s at) lengthField 0
 unfoldable pub kindAt : List ℕ → ℕ → ℕ
 kindAt s at = getD (decode headWidths s at) kindField 0
 
--- the spare byte of a message of this kind at a place; 0 for a kind that has none
-unfoldable pub spareAt : Kind → List ℕ → ℕ → ℕ
-spareAt k s at = getD (fieldsAt k s at) spareField spareByte
+-- the bytes of the run of a message of this kind at a place, which the length tells
+unfoldable pub runAt : Kind → List ℕ → ℕ → ℕ
+runAt k s at = lengthAt s at - leastSize k
+
+-- the values of the fields of a message of this kind at a place
+unfoldable pub fieldsAt : Kind → List ℕ → ℕ → List ℕ
+fieldsAt k s at = decode (widthsWith k (runAt k s at)) s at
+
+-- a spare byte of this kind is not 0 among those fields
+unfoldable pub spareSet : Kind → List ℕ → Bool
+spareSet k f = somePasses (λ p. not (eqb (getD f p spareByte) spareByte)) (layout k .spares)
+
+-- a message of this kind is laid out at a place: its length is one of the kind's, it is whole, and no spare byte is set
+pub record LaidOut (k : Kind) (s : List ℕ) (at : ℕ) : Type 0 where
+  pub least : leastSize k ≤ lengthAt s at
+  pub most : lengthAt s at ≤ mostSize k
+  pub whole : lengthAt s at ≤ length s - at
+  pub clear : spareSet k (fieldsAt k s at) ≡ false
 
 -- the refusal of a message of this kind at a place, in document 01's order: bad length, cut short, spare set
 unfoldable pub refusalAs : Kind → List ℕ → ℕ → ℕ
 refusalAs k s at =
-    cond (not (eqb (lengthAt s at) (sizeOf k))) refusal.badLength
-    (cond (ltb (length s - at) (sizeOf k)) refusal.cutShort
-    (cond (not (eqb (spareAt k s at) spareByte)) refusal.spareSet
-    refusal.accepted))
+    cond (ltb (lengthAt s at) (leastSize k)) refusal.badLength
+    (cond (ltb (mostSize k) (lengthAt s at)) refusal.badLength
+    (cond (ltb (length s - at) (lengthAt s at)) refusal.cutShort
+    (cond (spareSet k (fieldsAt k s at)) refusal.spareSet
+    refusal.accepted)))
 
 -- the message of this kind at a place, or its refusal
 unfoldable pub readAs : Kind → List ℕ → ℕ → Outcome
 readAs k s at =
-    cond (eqb (refusalAs k s at) refusal.accepted) (message (messageFrom k (fieldsAt k s at)) (sizeOf k)) (refused (refusalAs k s at))
+    cond (eqb (refusalAs k s at) refusal.accepted) (message (messageFrom k (fieldsAt k s at)) (lengthAt s at)) (refused (refusalAs k s at))
+
+-- the same where a kind is known, and otherwise its refusal
+abbrev pub readWith : Option Kind → List ℕ → ℕ → Outcome
+readWith none s at = refused refusal.unknownKind
+readWith (some k) s at = readAs k s at
 
 -- the outcome at a place: the end where no byte is left; one to three bytes are cut short; an unknown kind is refused before
 -- its length is judged
@@ -66,7 +89,4 @@ unfoldable pub readAt : List ℕ → ℕ → Outcome
 readAt s at =
     cond (leb (length s) at) end
     (cond (ltb (length s - at) headSize) (refused refusal.cutShort)
-    (cond (eqb (kindAt s at) (kindNumber Weak)) (readAs Weak s at)
-    (cond (eqb (kindAt s at) (kindNumber Strong)) (readAs Strong s at)
-    (cond (eqb (kindAt s at) (kindNumber Settlement)) (readAs Settlement s at)
-    (refused refusal.unknownKind)))))
+    (readWith (kindWith (kindAt s at)) s at))

@@ -1,17 +1,19 @@
-// Messages as the code holds them: made of a request or of the number to settle, and their kind.
+// Messages as the code holds them: made of a request or of the number to settle, their kind and their size.
 use super::Kind;
 use super::Message;
+use super::Subject;
+use super::layout;
 use numbers::Number;
 use request::Request;
 ghost use mathlib.Core.Path.{_≡_};
-ghost use Rattle.wire.specs.Message.{request as requestMessage, settlement, kindOf, held, noMessage, said};
+ghost use Rattle.wire.specs.Message.{request as requestMessage, settlement, kindOf, sizeOf, held, noMessage, said};
 
 // The message that spreads r.
 pub fn of_request(r: Request) -> Message
     ensures { λ m. ⌜ m ≡ held (requestMessage r) ⌝ }
 {
     Message {
-        settles: false,
+        subject: Subject::Request,
         request: r,
     }
 }
@@ -21,7 +23,7 @@ pub fn of_settlement(n: Number) -> Message
     ensures { λ m. ⌜ m ≡ held (settlement n) ⌝ }
 {
     Message {
-        settles: true,
+        subject: Subject::Settlement,
         request: request::bare(n),
     }
 }
@@ -31,7 +33,7 @@ pub fn nothing() -> Message
     ensures { λ m. ⌜ m ≡ noMessage ⌝ }
 {
     Message {
-        settles: false,
+        subject: Subject::Request,
         request: request::none(),
     }
 }
@@ -40,10 +42,25 @@ pub fn nothing() -> Message
 pub fn kind_of(m: Message) -> Kind
     ensures { λ k. ⌜ k ≡ kindOf (said m) ⌝ }
 {
-    if m.settles {
-        return Kind::Settlement;
+    let subject = m.subject;
+    match subject {
+        Subject::Request => kind_of_request(m.request),
+        Subject::Settlement => Kind::Settlement,
     }
-    let r = m.request;
+}
+
+// The bytes that a message has.
+pub fn size_of(m: Message) -> usize
+    ensures { λ n. ⌜ n ≡ sizeOf (said m) ⌝ }
+{
+    let kind = kind_of(m);
+    layout::least_size(kind)
+}
+
+// The kind of the message that spreads r.
+fn kind_of_request(r: Request) -> Kind
+    ensures { λ k. ⌜ k ≡ kindOf (requestMessage r) ⌝ }
+{
     if r.asked.strong {
         return Kind::Strong;
     }

@@ -2,13 +2,18 @@
 use super::Kind;
 use parts::places;
 ghost use mathlib.Core.Path.{_≡_};
-ghost use Rattle.wire.specs.Layout.{kindNumber, sizeOf};
+ghost use Rattle.wire.specs.Layout.{kindNumber, layout, leastSize};
 
 pub const WEAK: u8 = 1;
 
 pub const STRONG: u8 = 2;
 
 pub const SETTLEMENT: u8 = 3;
+
+// The bytes of the shortest message, a settlement, and of the longest one, a strong request.
+pub const LEAST_MESSAGE: usize = places::SETTLEMENT_SIZE;
+
+pub const LONGEST_MESSAGE: usize = places::STRONG_SIZE;
 
 // Document 01's number of a kind.
 pub fn kind_number(k: Kind) -> u8
@@ -21,13 +26,24 @@ pub fn kind_number(k: Kind) -> u8
     }
 }
 
-// The bytes of a message of a kind.
-pub fn size_of(k: Kind) -> usize
-    ensures { λ r. ⌜ r ≡ sizeOf k ⌝ }
+// The bytes of a message of a kind without a run.
+pub fn least_size(k: Kind) -> usize
+    ensures { λ r. ⌜ r ≡ leastSize k ⌝ }
 {
     match k {
         Kind::Weak => places::WEAK_SIZE,
         Kind::Strong => places::STRONG_SIZE,
         Kind::Settlement => places::SETTLEMENT_SIZE,
+    }
+}
+
+// The most bytes of the run of a kind.
+pub fn most_run(k: Kind) -> usize
+    ensures { λ r. ⌜ r ≡ layout k .mostRun ⌝ }
+{
+    match k {
+        Kind::Weak => 0,
+        Kind::Strong => 0,
+        Kind::Settlement => 0,
     }
 }

@@ -1,6 +1,6 @@
 // Bus messages, document 01's kinds 1 to 3: a reader of a lent run of bytes and a writer into a lent part.
 //
-// Here are the types. The calls are `reader::read` and `writer::write`; `held` makes messages and tells their kind, `layout` has
+// Here are the types. The calls are `reader::read` and `writer::write`; `held` makes messages and tells their kind and size, `layout` has
 // the numbers and sizes of the kinds. The contracts cite `readAt`, `writeAnswer` and `afterWrite` of `specs/`; that messages read back as
 // written and write back as read is in `proofs/RoundTrip.antt`.
 use request::Request;
@@ -17,10 +17,15 @@ pub enum Kind {
     Settlement,
 }
 
+// What a message is about: a request, weak or strong, or the settlement of one.
+pub enum Subject {
+    Request,
+    Settlement,
+}
+
 // A message: the request, or the settlement of its number, for which the other fields stand for nothing.
-#[repr(C)]
 pub struct Message {
-    pub settles: bool,
+    pub subject: Subject,
     pub request: Request,
 }
 

@@ -11,11 +11,11 @@ use parts::reading;
 use request::refusal;
 ghost use mathlib.Core.Path.{_≡_};
 ghost use Prim.Native.Nat.{_+_, _≤_};
-ghost use lib.ListN.{length};
-ghost use Rattle.wire.specs.Layout.{sizeOf, headSize, fieldsAt};
+ghost use lib.ListN.{length as len};
+ghost use Rattle.wire.specs.Layout.{leastSize, headSize};
 ghost use Rattle.wire.specs.Message.{messageFrom, held as heldFor};
 ghost use Rattle.wire.specs.Reader.{answered, untaken as untakenBy, refusalOf};
-ghost use Rattle.wire.specs.Reader.{spareAt, refusalAs, readAs, readAt};
+ghost use Rattle.wire.specs.Reader.{lengthAt, fieldsAt, spareSet, LaidOut, refusalAs, readAs, readAt};
 
 // The message at a place with the bytes taken; the end, where no byte is left; or a refusal, which takes nothing.
 pub fn read(s: &[u8], at: usize) -> Reading
@@ -54,10 +54,11 @@ pub fn refusal_of(answer: Answer) -> u8
 
 // The message of a kind at a place with a whole head.
 fn read_as(s: &[u8], at: usize, kind: Kind) -> Reading
-    requires { ⌜ at + headSize ≤ length (now s) ⌝ }
+    requires { ⌜ at + headSize ≤ len (now s) ⌝ }
     ensures { λ r. ⌜ r ≡ answered (readAs kind (now (s .entry)) at) ⌝ }
 {
-    let word = refusal_as(s, at, kind);
+    let length = integers::integer_at(s, at + places::LENGTH_AT, places::LENGTH_WIDTH) as usize;
+    let word = refusal_as(s, at, kind, length);
     if word != refusal::ACCEPTED {
         return untaken(Answer::Refused(word));
     }
@@ -65,44 +66,46 @@ fn read_as(s: &[u8], at: usize, kind: Kind) -> Reading
     Reading {
         answer: Answer::Message,
         message: message,
-        taken: layout::size_of(kind),
+        taken: length,
     }
 }
 
-// Why a message of a kind is refused at a place with a whole head; 0 where it is not.
-fn refusal_as(s: &[u8], at: usize, kind: Kind) -> u8
-    requires { ⌜ at + headSize ≤ length (now s) ⌝ }
+// Why a message of a kind is refused at a place with a whole head and that length; 0 where it is not.
+fn refusal_as(s: &[u8], at: usize, kind: Kind, length: usize) -> u8
+    requires { ⌜ (at + headSize ≤ len (now s)) × (length ≡ lengthAt (now s) at) ⌝ }
     ensures { λ r. ⌜ r ≡ refusalAs kind (now (s .entry)) at ⌝ }
 {
-    let size = layout::size_of(kind);
-    let length = integers::integer_at(s, at + places::LENGTH_AT, places::LENGTH_WIDTH);
-    if length != size as u64 {
+    let least = layout::least_size(kind);
+    if length < least {
         return refusal::BAD_LENGTH;
     }
-    if s.len() - at < size {
+    if layout::most_run(kind) < length - least {
+        return refusal::BAD_LENGTH;
+    }
+    if s.len() - at < length {
         return refusal::CUT_SHORT;
     }
-    if spare_at(s, at, kind) != 0 {
+    if spare_set(s, at, kind) {
         return refusal::SPARE_SET;
     }
     refusal::ACCEPTED
 }
 
-// The spare byte of a whole message of a kind; 0 for a kind that has none.
-fn spare_at(s: &[u8], at: usize, kind: Kind) -> u8
-    requires { ⌜ at + sizeOf kind ≤ length (now s) ⌝ }
-    ensures { λ r. ⌜ r ≡ spareAt kind (now (s .entry)) at ⌝ }
+// Whether the spare byte of a whole message of a kind is not 0; a kind that has none is clear.
+fn spare_set(s: &[u8], at: usize, kind: Kind) -> bool
+    requires { ⌜ at + leastSize kind ≤ len (now s) ⌝ }
+    ensures { λ r. ⌜ r ≡ spareSet kind (fieldsAt kind (now (s .entry)) at) ⌝ }
 {
     match kind {
-        Kind::Weak => s[at + places::SPARE_AT],
-        Kind::Strong => s[at + places::SPARE_AT],
-        Kind::Settlement => 0,
+        Kind::Weak => s[at + places::SPARE_AT] != 0,
+        Kind::Strong => s[at + places::SPARE_AT] != 0,
+        Kind::Settlement => false,
     }
 }
 
-// The fields of a whole message of a kind as a message.
+// The fields of a message of a kind that is laid out as one.
 fn message_at(s: &[u8], at: usize, kind: Kind) -> Message
-    requires { ⌜ at + sizeOf kind ≤ length (now s) ⌝ }
+    requires { ⌜ LaidOut kind (now s) at ⌝ }
     ensures { λ r. ⌜ r ≡ heldFor (messageFrom kind (fieldsAt kind (now (s .entry)) at)) ⌝ }
 {
     match kind {

@@ -1,21 +1,23 @@
 // The writer: a message at the front of a lent part.
 use super::Kind;
 use super::Message;
+use super::Subject;
 use super::Written;
 use super::held;
 use super::layout;
 use parts::integers;
 use parts::places;
 use parts::writing;
+use request::Request;
 use request::refusal;
 ghost use mathlib.Core.Path.{_≡_};
 ghost use Prim.Native.Nat.{_≤_};
 ghost use mathlib.Core.List.{_∷_, []};
 ghost use lib.ListN.{length};
 ghost use lib.Seq.{sets as put};
-ghost use Rattle.wire.specs.Layout.{kindNumber, headWidths, headSize, encode, sizeOf};
-ghost use Rattle.wire.specs.Message.{kindOf, said, bytesOf, weakWithContext};
-ghost use Rattle.wire.specs.Writer.{Wrote};
+ghost use Rattle.wire.specs.Layout.{kindNumber, headWidths, headSize, encode};
+ghost use Rattle.wire.specs.Message.{request as requestMessage, said, bytesOf, weakWithContext};
+ghost use Rattle.wire.specs.Writer.{Wrote, PutAsks};
 
 // Writes m at the front of out: exactly its bytes, or nothing where it is refused.
 pub fn write(out: &mut [u8], m: Message) -> Written
@@ -28,14 +30,14 @@ pub fn write(out: &mut [u8], m: Message) -> Written
         };
     }
     let kind = held::kind_of(m);
-    let size = layout::size_of(kind);
+    let size = held::size_of(m);
     if out.len() < size {
         return Written {
             refusal: refusal::NO_ROOM,
             bytes: 0,
         };
     }
-    put_message(out, m, kind);
+    put_message(out, m, kind, size);
     Written {
         refusal: refusal::ACCEPTED,
         bytes: size,
@@ -46,41 +48,47 @@ pub fn write(out: &mut [u8], m: Message) -> Written
 fn weak_with_context(m: Message) -> bool
     ensures { λ r. ⌜ r ≡ weakWithContext (said m) ⌝ }
 {
-    if m.settles {
-        return false;
+    let subject = m.subject;
+    match subject {
+        Subject::Request => weak_request_with_context(m.request),
+        Subject::Settlement => false,
     }
-    let r = m.request;
+}
+
+// Whether r is weak and has a context.
+fn weak_request_with_context(r: Request) -> bool
+    ensures { λ b. ⌜ b ≡ weakWithContext (requestMessage r) ⌝ }
+{
     if r.asked.strong {
         return false;
     }
     !sets::is_empty(r.context)
 }
 
-// Writes m, which is of this kind.
-fn put_message(out: &mut [u8], m: Message, kind: Kind)
-    requires { ⌜ (kind ≡ kindOf (said m)) × (sizeOf kind ≤ length (now out)) ⌝ }
+// Writes m, which is of this kind and size.
+fn put_message(out: &mut [u8], m: Message, kind: Kind, size: usize)
+    requires { ⌜ PutAsks m kind size (now out) ⌝ }
     ensures { λ _. ⌜ now (out .exit) ≡ put (now (out .entry)) 0 (bytesOf (said m)) ⌝ }
 {
     let request = m.request;
-    put_head(out, kind);
+    put_head(out, kind, size);
     writing::put_number(out, request.number);
-    if m.settles {
-        return;
+    match kind {
+        Kind::Weak => writing::put_body(out, request),
+        Kind::Strong => {
+            writing::put_body(out, request);
+            writing::put_context(out, request.context);
+        }
+        Kind::Settlement => {}
     }
-    writing::put_body(out, request);
-    if !request.asked.strong {
-        return;
-    }
-    writing::put_context(out, request.context);
 }
 
 // Writes the length and the kind.
-fn put_head(out: &mut [u8], kind: Kind)
+fn put_head(out: &mut [u8], kind: Kind, size: usize)
     requires { ⌜ headSize ≤ length (now out) ⌝ }
-    ensures { λ _. ⌜ now (out .exit) ≡ put (now (out .entry)) 0 (encode headWidths (sizeOf kind ∷ kindNumber kind ∷ [])) ⌝ }
+    ensures { λ _. ⌜ now (out .exit) ≡ put (now (out .entry)) 0 (encode headWidths (size ∷ kindNumber kind ∷ [])) ⌝ }
 {
-    let size = layout::size_of(kind) as u64;
     let number = layout::kind_number(kind) as u64;
-    integers::put_integer(out, places::LENGTH_AT, places::LENGTH_WIDTH, size);
+    integers::put_integer(out, places::LENGTH_AT, places::LENGTH_WIDTH, size as u64);
     integers::put_integer(out, places::KIND_AT, places::KIND_WIDTH, number);
 }

@@ -7,7 +7,7 @@ none-requires : tie.Need-none-requires
 none-requires c κs = search needs
 
 returns : tie.Need-returns
-returns c = rw (c .none .ensures)
+returns c = rw (c .before .before .none .ensures)
 
 pub no-reply-spec : {M : Type 1} → statement M
 no-reply-spec = tie.close (tie.spec none-requires returns)

@@ -2,6 +2,7 @@
 use Rattle.replica.specs.State.{State}
 use Rattle.intake.specs.Intake.{takeParts}
 use Rattle.intake.proofs.IntakeLaws.{take-settled, take-heard}
+use borrow.Author.Needs.{needs}
 use Rattle.intake.proofs.take.Statement.{statement}
 use Rattle.intake.proofs.take.Tie as tie
 
@@ -11,25 +12,31 @@ lent a =
     takeParts (a .pre .panel) (a .args .core) (a .args .held .now) (a .args .known .now) (a .args .awaiting .now) (a .args .clocks .now)
     (a .args .operations .now) (a .args .contexts .now) (a .args .order .now) (a .args .stack .now) (a .args .responses .now)
 
+enum-told : tie.Need-enum-told
+enum-told c = search needs
+
+deliver-requires : tie.Need-deliver-requires
+deliver-requires c κs =
+    let a = c .before .before .before .before .before .before .before .before .before in
+    record { panel = lent a; invariant = a .pre .invariant }
+
+enum-told-2 : tie.Need-enum-told-2
+enum-told-2 c = search needs
+
 commit-requires : tie.Need-commit-requires
 commit-requires c κs =
-    let a = c .before .before .before .before .before .before .before .before in
+    let a = c .before .before .before .before .before .before .before .before .before in
     record { panel = lent a; invariant = a .pre .invariant }
 
 returns : tie.Need-returns
 returns c =
-    let settles = c .before .before .before .before .before .before .before in
-    take-settled (settles .before .before .args .m) (settles .if1 .taken) (c .commit .ensures)
-
-deliver-requires : tie.Need-deliver-requires
-deliver-requires c κs =
-    let a = c .before .before .before .before .before .before .before .before in
-    record { panel = lent a; invariant = a .pre .invariant }
+    let hears = c .before .before .before .before .before .before .before in
+    take-heard (hears .before .before .before .args .m) (hears .enum-told .given .1) (c .deliver .ensures)
 
 returns-2 : tie.Need-returns-2
 returns-2 c =
-    let hears = c .before .before .before .before .before .before .before in
-    take-heard (hears .before .before .args .m) (hears .if1 .left) (c .deliver .ensures)
+    let settles = c .before .before .before .before .before .before .before in
+    take-settled (settles .before .before .before .args .m) (settles .enum-told2 .given .1) (c .commit .ensures)
 
 pub take-spec : {M : Type 1} → statement M
-take-spec = tie.close (tie.spec commit-requires returns deliver-requires returns-2)
+take-spec = tie.close (tie.spec enum-told deliver-requires enum-told-2 commit-requires returns returns-2)

@@ -7,7 +7,8 @@ use Rattle.report.specs.Lines.{messageLine}
 use Rattle.report.specs.Sizes.{mostMessageBytes}
 use Rattle.report.proofs.SizeLaws.{message-short}
 use Rattle.wire.specs.Layout.{kindNumber}
-use Rattle.sheet.proofs.PuttingLaws.{message-line, kind-small}
+use Rattle.wire.proofs.KindLaws.{kind-laws}
+use Rattle.sheet.proofs.PuttingLaws.{message-line}
 use borrow.Author.Needs.{needs}
 use Rattle.sheet.proofs.put_message_line.Statement.{statement}
 use Rattle.sheet.proofs.put_message_line.Tie as tie
@@ -23,7 +24,7 @@ short : (c : tie.After-kind-number) → let a = c .before .before .before .args 
     ≤ mostMessageBytes
 short c =
     let s = c .before .before .before in
-    let k : c .kind-number .result < 2 ^ 16 = omega (arith, c .kind-number .ensures, kind-small (c .before .kind-of .result)) in
+    let k : c .kind-number .result < 2 ^ 16 = omega (arith, c .kind-number .ensures, kind-laws (c .before .kind-of .result) .small) in
     message-short _ _ _ _ _ _ (omega (arith, s .pre .1)) k (small s .0) (small s .1) (small s .2) (small s .3)
 
 kind-of-requires : tie.Need-kind-of-requires

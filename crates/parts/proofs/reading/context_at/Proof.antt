@@ -22,15 +22,13 @@ abbrev μ-loop : tie.MeasureT-loop
 μ-loop s at words₀ from₀ p₀ words from p = mostPanels - p
 
 add-from : tie.Need-add-from Inv-loop μ-loop
-unfolding size
 add-from c = omega arith
 
 loop-holds : tie.Need-loop-holds Inv-loop μ-loop
-unfolding size decode
+unfolding decode
 loop-holds c = (omega arith, omega arith, refl, refl)
 
 word-at-requires : tie.Need-word-at-requires Inv-loop μ-loop
-unfolding size
 word-at-requires c κs = omega arith
 
 mul-words : tie.Need-mul-words Inv-loop μ-loop
@@ -40,7 +38,6 @@ array-write-words : tie.Need-array-write-words Inv-loop μ-loop
 array-write-words c = omega arith
 
 add-from-2 : tie.Need-add-from-2 Inv-loop μ-loop
-unfolding size
 add-from-2 c = omega arith
 
 add-p : tie.Need-add-p Inv-loop μ-loop

@@ -1,7 +1,7 @@
 -- `reading::number_at` meets its contract: the fields stand where the layout has them.
 use native.Mathlib.Nat.{add-assoc, add-zero}
 use native.Mathlib.Omega.{arith}
-use Rattle.parts.specs.Widths.{size, decode}
+use Rattle.parts.specs.Widths.{decode}
 use Rattle.parts.specs.Integers.{integerAt}
 use borrow.Author.Needs.{needs}
 use Rattle.parts.proofs.reading.number_at.Statement.{statement}
@@ -11,14 +11,12 @@ add-t3 : tie.Need-add-t3
 add-t3 c = search needs
 
 shared-slice-read-t5 : tie.Need-shared-slice-read-t5
-unfolding size
 shared-slice-read-t5 c = omega arith
 
 add-t7 : tie.Need-add-t7
 add-t7 c = search needs
 
 shared-slice-read-t9 : tie.Need-shared-slice-read-t9
-unfolding size
 shared-slice-read-t9 c = omega arith
 
 returns : tie.Need-returns

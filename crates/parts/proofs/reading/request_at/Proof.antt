@@ -1,7 +1,7 @@
 -- `reading::request_at` meets its contract: the fields stand where the layout has them.
 use native.Mathlib.Nat.{add-assoc, add-zero}
 use native.Mathlib.Omega.{arith}
-use Rattle.parts.specs.Widths.{size, decode}
+use Rattle.parts.specs.Widths.{decode}
 use Rattle.parts.specs.Integers.{integerAt}
 use borrow.Author.Needs.{needs}
 use Rattle.parts.proofs.reading.request_at.Statement.{statement}
@@ -11,7 +11,6 @@ add-integer-at : tie.Need-add-integer-at
 add-integer-at c = search needs
 
 integer-at-requires : tie.Need-integer-at-requires
-unfolding size
 integer-at-requires c κs = omega arith
 
 cast-clock : tie.Need-cast-clock
@@ -21,7 +20,6 @@ add-integer-at-2 : tie.Need-add-integer-at-2
 add-integer-at-2 c = search needs
 
 integer-at-requires-2 : tie.Need-integer-at-requires-2
-unfolding size
 integer-at-requires-2 c κs = omega arith
 
 cast-amount : tie.Need-cast-amount
@@ -31,25 +29,21 @@ add-code : tie.Need-add-code
 add-code c = search needs
 
 shared-slice-read-code : tie.Need-shared-slice-read-code
-unfolding size
 shared-slice-read-code c = omega arith
 
 add-r : tie.Need-add-r
 add-r c = search needs
 
 shared-slice-read-r : tie.Need-shared-slice-read-r
-unfolding size
 shared-slice-read-r c = omega arith
 
 add-q : tie.Need-add-q
 add-q c = search needs
 
 shared-slice-read-q : tie.Need-shared-slice-read-q
-unfolding size
 shared-slice-read-q c = omega arith
 
 number-at-requires : tie.Need-number-at-requires
-unfolding size
 number-at-requires c κs = omega arith
 
 returns : tie.Need-returns

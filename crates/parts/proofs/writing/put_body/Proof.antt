@@ -1,6 +1,5 @@
 -- `writing::put_body` meets its contract, field by field.
 use native.Mathlib.Omega.{arith}
-use Rattle.parts.specs.Widths.{size}
 use Rattle.parts.proofs.WidthLaws.{field-then, field-last}
 use borrow.Author.Needs.{needs}
 use Rattle.parts.proofs.writing.put_body.Statement.{statement}
@@ -22,34 +21,27 @@ cast-amount : tie.Need-cast-amount
 cast-amount c = search needs
 
 put-integer-requires : tie.Need-put-integer-requires
-unfolding size
 put-integer-requires c κs = omega arith
 
 put-integer-requires-2 : tie.Need-put-integer-requires-2
-unfolding size
 put-integer-requires-2 c κs = omega arith
 
 put-integer-requires-3 : tie.Need-put-integer-requires-3
-unfolding size
 put-integer-requires-3 c κs = omega arith
 
 put-integer-requires-4 : tie.Need-put-integer-requires-4
-unfolding size
 put-integer-requires-4 c κs = omega arith
 
 put-integer-requires-5 : tie.Need-put-integer-requires-5
-unfolding size
 put-integer-requires-5 c κs = omega arith
 
 put-integer-requires-6 : tie.Need-put-integer-requires-6
-unfolding size
 put-integer-requires-6 c κs = omega arith
 
 same-length : tie.Need-same-length
 same-length c = search needs
 
 returns : tie.Need-returns
-unfolding size
 returns c =
     let amount = c .before .before in
     let spare = amount .before .before .before .before in

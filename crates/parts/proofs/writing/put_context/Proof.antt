@@ -23,7 +23,6 @@ abbrev μ-loop : tie.MeasureT-loop
 μ-loop out₀ context to₀ p₀ out to p = mostPanels - p
 
 loop-holds : tie.Need-loop-holds Inv-loop μ-loop
-unfolding size
 loop-holds c = (omega arith, omega arith, refl, refl)
 
 mul-put-word : tie.Need-mul-put-word Inv-loop μ-loop
@@ -33,11 +32,9 @@ element-copy-out-put-word : tie.Need-element-copy-out-put-word Inv-loop μ-loop
 element-copy-out-put-word c = omega arith
 
 put-word-requires : tie.Need-put-word-requires Inv-loop μ-loop
-unfolding size
 put-word-requires c κs = omega arith
 
 add-to : tie.Need-add-to Inv-loop μ-loop
-unfolding size
 add-to c = omega arith
 
 add-p : tie.Need-add-p Inv-loop μ-loop

@@ -1,6 +1,5 @@
 -- `writing::put_number` meets its contract, field by field.
 use native.Mathlib.Omega.{arith}
-use Rattle.parts.specs.Widths.{size}
 use Rattle.parts.proofs.WidthLaws.{field-then, field-last}
 use borrow.Author.Needs.{needs}
 use Rattle.parts.proofs.writing.put_number.Statement.{statement}
@@ -13,18 +12,15 @@ cast-event : tie.Need-cast-event
 cast-event c = search needs
 
 put-integer-requires : tie.Need-put-integer-requires
-unfolding size
 put-integer-requires c κs = omega arith
 
 put-integer-requires-2 : tie.Need-put-integer-requires-2
-unfolding size
 put-integer-requires-2 c κs = omega arith
 
 same-length : tie.Need-same-length
 same-length c = search needs
 
 returns : tie.Need-returns
-unfolding size
 returns c =
     let second = c .before .before in
     let first = second .before .before .before .before in

@@ -4,7 +4,7 @@ use native.Mathlib.Omega.{arith}
 use Rattle.request.specs.Refusal as refusal
 use Rattle.wire.specs.declared.Kind.{Kind}
 use Rattle.wire.specs.declared.Kind.the-variants.{Weak, Strong, Settlement}
-use Rattle.wire.specs.Layout.{kindNumber, size, decode}
+use Rattle.wire.specs.Layout.{kindNumber, decode}
 use Rattle.wire.specs.Reader.{answered, refused, kindAt, readAs, readAt}
 use Rattle.wire.proofs.ReaderLaws.{at-end, head-cut, of-kind, of-no-kind}
 use borrow.Author.Needs.{needs}
@@ -20,7 +20,6 @@ kind-read c = c .integer-at .ensures .0
 known : (c : tie.After-integer-at) (k : Kind) → c .integer-at .result ≡ kindNumber k
     → readAt (c .before .before .before .before .args .s .now) (c .before .before .before .before .args .at)
     ≡ readAs k (c .before .before .before .before .args .s .now) (c .before .before .before .before .args .at)
-unfolding size
 known c k e = of-kind _ _ (c .before .before .if1 .left) (c .before .if2 .left) k (sym (kind-read c) ∙ e)
 
 abbrev start : tie.Else5 → tie.Start
@@ -33,7 +32,6 @@ no-kind c Strong e = c .before .if4 .left (kind-read (c .before .before .before)
 no-kind c Settlement e = c .if5 .left (kind-read (c .before .before .before) ∙ e)
 
 unknown : (c : tie.Else5) → readAt (start c .args .s .now) (start c .args .at) ≡ refused refusal.unknownKind
-unfolding size
 unknown c =
     let b = c .before .before .before in
     of-no-kind _ _ (b .before .before .if1 .left) (b .before .if2 .left) (no-kind c)
@@ -52,7 +50,7 @@ untaken-requires-2 : tie.Need-untaken-requires-2
 untaken-requires-2 c κs = tt
 
 returns-2 : tie.Need-returns-2
-unfolding answered size
+unfolding answered
 returns-2 c = c .untaken2 .ensures ∙ sym (ap answered (head-cut _ _ (c .before .before .if1 .left) (c .before .if2 .taken)))
 
 add-integer-at : tie.Need-add-integer-at
@@ -65,7 +63,6 @@ cast-if3 : tie.Need-cast-if3
 cast-if3 c = search needs
 
 read-as-requires : tie.Need-read-as-requires
-unfolding size
 read-as-requires c κs = omega arith
 
 returns-3 : tie.Need-returns-3
@@ -75,7 +72,6 @@ cast-if4 : tie.Need-cast-if4
 cast-if4 c = search needs
 
 read-as-requires-2 : tie.Need-read-as-requires-2
-unfolding size
 read-as-requires-2 c κs = omega arith
 
 returns-4 : tie.Need-returns-4
@@ -85,7 +81,6 @@ cast-if5 : tie.Need-cast-if5
 cast-if5 c = search needs
 
 read-as-requires-3 : tie.Need-read-as-requires-3
-unfolding size
 read-as-requires-3 c κs = omega arith
 
 returns-5 : tie.Need-returns-5

@@ -1,26 +1,36 @@
 -- `reader::read_as` meets its contract: the refusal, or the message.
 use Prim.Native.Nat.{ℕ}
 use mathlib.Core.Path.{_≡_, sym, ap, _∙_}
+use native.Mathlib.Nat.{add-zero}
 use native.Mathlib.Omega.{arith}
 use Rattle.request.specs.Refusal as refusal
-use Rattle.wire.specs.Reader.{answered, refused, refusalAs}
-use Rattle.wire.proofs.ReaderLaws.{LaidOut, accepted-laid-out, refused-as, read-as}
+use Rattle.wire.specs.Layout.{decode}
+use Rattle.wire.specs.Reader.{answered, refused, refusalAs, lengthAt}
+use Rattle.wire.proofs.ReaderLaws.{accepted-laid-out, refused-as, read-as}
 use borrow.Author.Needs.{needs}
 use Rattle.wire.proofs.reader.read_as.Statement.{statement}
 use Rattle.wire.proofs.reader.read_as.Tie as tie
 
+length-read : (c : tie.After-integer-at)
+    → c .integer-at .result ≡ lengthAt (c .before .before .args .s .now) (c .before .before .args .at)
+unfolding lengthAt decode
+length-read c = c .integer-at .ensures .0 ∙ simp add-zero
+
 -- past the test nothing is refused
 accepted : (c : tie.Else1)
-    → refusalAs (c .before .before .before .args .kind) (c .before .before .before .args .s .now) (c .before .before .before .args .at)
+    → refusalAs (c .before .before .before .before .args .kind) (c .before .before .before .before .args .s .now)
+    (c .before .before .before .before .args .at)
     ≡ refusal.accepted
 accepted c = sym (c .before .refusal-as .ensures) ∙ c .if1 .left
 
-laid : (c : tie.Else1)
-    → LaidOut (c .before .before .before .args .kind) (c .before .before .before .args .s .now) (c .before .before .before .args .at)
-laid c = accepted-laid-out _ _ _ (accepted c)
+add-integer-at : tie.Need-add-integer-at
+add-integer-at c = search needs
+
+integer-at-requires : tie.Need-integer-at-requires
+integer-at-requires c κs = omega arith
 
 refusal-as-requires : tie.Need-refusal-as-requires
-refusal-as-requires c κs = search needs
+refusal-as-requires c κs = (c .before .before .pre, length-read c)
 
 untaken-requires : tie.Need-untaken-requires
 untaken-requires c κs = tt
@@ -35,24 +45,22 @@ returns c =
     ∙ sym (ap answered (refused-as _ _ _ (λ e. c .before .if1 .taken (word ∙ e))))
 
 message-at-requires : tie.Need-message-at-requires
-message-at-requires c κs = omega (arith, laid c .whole)
-
-size-of-requires : tie.Need-size-of-requires
-size-of-requires c κs = tt
+message-at-requires c κs = accepted-laid-out _ _ _ (accepted c)
 
 returns-2 : tie.Need-returns-2
 unfolding answered
 returns-2 c =
-    let d = c .before .before in
-    rw (c .before .message-at .ensures, c .size-of .ensures) (sym (ap answered (read-as _ _ _ (accepted d))))
+    let d = c .before in
+    rw (c .message-at .ensures, length-read (d .before .before)) (sym (ap answered (read-as _ _ _ (accepted d))))
 
 pub read-as-spec : {M : Type 1} → statement M
 read-as-spec =
     tie.close
     (tie.spec
+    add-integer-at
+    integer-at-requires
     refusal-as-requires
     untaken-requires
     returns
     message-at-requires
-    size-of-requires
     returns-2)

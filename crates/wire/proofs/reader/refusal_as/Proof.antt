@@ -1,80 +1,92 @@
 -- `reader::refusal_as` meets its contract, refusal by refusal.
 use Prim.Native.Nat.{_-_, _≤_}
-use mathlib.Core.Path.{_≡_, sym, _∙_}
-use native.Mathlib.Nat.{add-zero}
+use mathlib.Core.Path.{_≡_, sym, ap, _∙_}
 use native.Mathlib.Omega.{arith}
 use lib.ListN.{length}
-use Rattle.wire.specs.Layout.{size, sizeOf, decode}
+use Rattle.wire.specs.Layout.{leastSize, mostSize}
 use Rattle.wire.specs.Reader.{lengthAt}
-use Rattle.wire.proofs.ReaderLaws.{wrong-length, cut-short, spare-set, laid-out}
+use Rattle.wire.proofs.ReaderLaws.{too-short, too-long, cut-short, spare-set, laid-out}
 use borrow.Author.Needs.{needs}
 use Rattle.wire.proofs.reader.refusal_as.Statement.{statement}
 use Rattle.wire.proofs.reader.refusal_as.Tie as tie
 
--- past the test the length is the kind's, and past the next the message is whole
-length-read : (c : tie.After-integer-at)
-    → c .integer-at .result ≡ lengthAt (c .before .before .before .args .s .now) (c .before .before .before .args .at)
-unfolding lengthAt decode
-length-read c = c .integer-at .ensures .0 ∙ simp add-zero
+-- past each test: the length is not below the kind's least, not above its most, and the message is whole
+least : (c : tie.Else1)
+    → leastSize (c .before .before .before .args .kind)
+    ≤ lengthAt (c .before .before .before .args .s .now) (c .before .before .before .args .at)
+least c = omega (arith, c .if1 .left, c .before .least-size .ensures, c .before .before .before .pre .1)
 
-length-good : (c : tie.Else1)
-    → lengthAt (c .before .before .before .before .args .s .now) (c .before .before .before .before .args .at)
-    ≡ sizeOf (c .before .before .before .before .args .kind)
-length-good c = sym (length-read (c .before)) ∙ c .if1 .left ∙ c .before .before .size-of .ensures
+abbrev startOf : tie.Else2 → tie.Start
+startOf c = c .before .before .before .before .before
 
-whole : (c : tie.Else2)
-    → sizeOf (c .before .before .before .before .before .args .kind)
-    ≤ length (c .before .before .before .before .before .args .s .now) - c .before .before .before .before .before .args .at
-whole c =
-    let e = c .before .before .before .size-of .ensures in
-    omega arith
+most : (c : tie.Else2) → lengthAt (startOf c .args .s .now) (startOf c .args .at) ≤ mostSize (startOf c .args .kind)
+unfolding mostSize
+most c =
+    let a = c .before in
+    omega (arith, c .if2 .left, a .most-run .ensures, a .before .before .least-size .ensures, startOf c .pre .1, least (a .before))
 
-size-of-requires : tie.Need-size-of-requires
-size-of-requires c κs = tt
+whole : (c : tie.Else3)
+    → lengthAt (startOf (c .before) .args .s .now) (startOf (c .before) .args .at)
+    ≤ length (startOf (c .before) .args .s .now) - startOf (c .before) .args .at
+whole c = omega (arith, c .if3 .left, startOf (c .before) .pre .1)
 
-add-integer-at : tie.Need-add-integer-at
-add-integer-at c = search needs
-
-integer-at-requires : tie.Need-integer-at-requires
-unfolding size
-integer-at-requires c κs = omega arith
+least-size-requires : tie.Need-least-size-requires
+least-size-requires c κs = tt
 
 returns : tie.Need-returns
-returns c = sym (wrong-length _ _ _ (λ e. c .if1 .taken (length-read (c .before) ∙ e ∙ sym (c .before .before .size-of .ensures))))
+returns c = sym (too-short _ _ _ (omega (arith, c .if1 .taken, c .before .least-size .ensures, c .before .before .before .pre .1)))
 
-sub-if2 : tie.Need-sub-if2
-sub-if2 c = search needs
+most-run-requires : tie.Need-most-run-requires
+most-run-requires c κs = tt
 
 returns-2 : tie.Need-returns-2
+unfolding mostSize
 returns-2 c =
-    let b = c .before .before in
-    let e = b .before .size-of .ensures in
-    sym (cut-short _ _ _ (length-good (c .before)) (omega arith))
+    let a = c .before in
+    let d = a .before in
+    sym (too-long _ _ _ (least d)
+    (omega (arith, c .if2 .taken, a .most-run .ensures, d .before .least-size .ensures, d .before .before .before .pre .1, least d)))
 
-spare-at-requires : tie.Need-spare-at-requires
-spare-at-requires c κs = search needs
+sub-if3 : tie.Need-sub-if3
+sub-if3 c = search needs
 
 returns-3 : tie.Need-returns-3
 returns-3 c =
-    let d = c .before .before in
-    sym (spare-set _ _ _ (length-good (d .before)) (whole d) (λ e. c .if3 .taken (c .before .spare-at .ensures ∙ e)))
+    let d = c .before in
+    sym (cut-short _ _ _ (least (d .before .before)) (most d) (omega (arith, c .if3 .taken, startOf d .pre .1)))
+
+spare-set-requires : tie.Need-spare-set-requires
+spare-set-requires c κs =
+    let d = c .before in
+    omega (arith, least (d .before .before), whole c, startOf d .pre .0)
 
 returns-4 : tie.Need-returns-4
 returns-4 c =
-    let d = c .before .before in
-    sym (laid-out _ _ _
-    (record { length-is = length-good (d .before); whole = whole d; spare-is = sym (c .before .spare-at .ensures) ∙ c .if3 .left }))
+    let w = c .before .before in
+    let d = w .before in
+    sym (spare-set _ _ _ (least (d .before .before)) (most d) (whole w) (sym (c .before .spare-set .ensures) ∙ c .if4 .taken))
+
+returns-5 : tie.Need-returns-5
+returns-5 c =
+    let w = c .before .before in
+    let d = w .before in
+    sym (laid-out _ _ _ (record {
+      least = least (d .before .before);
+      most = most d;
+      whole = whole w;
+      clear = sym (c .before .spare-set .ensures) ∙ c .if4 .left;
+    }))
 
 pub refusal-as-spec : {M : Type 1} → statement M
 refusal-as-spec =
     tie.close
     (tie.spec
-    size-of-requires
-    add-integer-at
-    integer-at-requires
+    least-size-requires
     returns
-    sub-if2
+    most-run-requires
     returns-2
-    spare-at-requires
+    sub-if3
     returns-3
-    returns-4)
+    spare-set-requires
+    returns-4
+    returns-5)

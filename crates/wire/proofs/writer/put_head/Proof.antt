@@ -1,13 +1,9 @@
 -- `writer::put_head` meets its contract, field by field.
 use native.Mathlib.Omega.{arith}
-use Rattle.wire.specs.Layout.{size}
 use Rattle.parts.proofs.WidthLaws.{field-then, field-last}
 use borrow.Author.Needs.{needs}
 use Rattle.wire.proofs.writer.put_head.Statement.{statement}
 use Rattle.wire.proofs.writer.put_head.Tie as tie
-
-size-of-requires : tie.Need-size-of-requires
-size-of-requires c κs = tt
 
 kind-number-requires : tie.Need-kind-number-requires
 kind-number-requires c κs = tt
@@ -16,11 +12,9 @@ cast-number : tie.Need-cast-number
 cast-number c = search needs
 
 put-integer-requires : tie.Need-put-integer-requires
-unfolding size
 put-integer-requires c κs = omega arith
 
 put-integer-requires-2 : tie.Need-put-integer-requires-2
-unfolding size
 put-integer-requires-2 c κs = omega arith
 
 same-length : tie.Need-same-length
@@ -30,15 +24,13 @@ returns : tie.Need-returns
 returns c =
     let second = c .before .before in
     let first = second .before .before .before .before in
-    let number = first .before .before in
-    rw (← number .before .size-of .ensures, ← number .kind-number .ensures)
+    rw (← first .before .before .kind-number .ensures)
     (field-then _ _ _ _ _ _ _ _ (first .put-integer .ensures) (field-last _ _ _ _ _ (second .put-integer2 .ensures)))
 
 pub put-head-spec : {M : Type 1} → statement M
 put-head-spec =
     tie.close
     (tie.spec
-    size-of-requires
     kind-number-requires
     cast-number
     put-integer-requires

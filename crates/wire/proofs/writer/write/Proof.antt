@@ -3,8 +3,7 @@ use Prim.Native.Nat.{ℕ}
 use Rattle.request.specs.Refusal as refusal
 use mathlib.Core.Bool.{false}
 use mathlib.Core.Path.{_≡_, sym, ap, _∙_}
-use Rattle.wire.specs.Layout.{sizeOf}
-use Rattle.wire.specs.Message.{Fits, said, kindOf, weakWithContext}
+use Rattle.wire.specs.Message.{Fits, said, weakWithContext}
 use Rattle.wire.proofs.HeldLaws.{Held, said-fits, array-small}
 use Rattle.wire.proofs.WriterLaws.{context-refused, room-refused, written, bytes-put}
 use borrow.Author.Needs.{needs}
@@ -32,9 +31,6 @@ fits c = said-fits (c .args .m) (held c)
 sendable : (c : tie.Else1) → weakWithContext (said (c .before .before .before .args .m)) ≡ false
 sendable c = sym (c .before .weak-with-context .ensures) ∙ c .if1 .left
 
-size-is : (c : tie.After-size-of) → c .size-of .result ≡ sizeOf (kindOf (said (c .before .before .before .before .before .args .m)))
-size-is c = c .size-of .ensures ∙ ap sizeOf (c .before .kind-of .ensures)
-
 weak-with-context-requires : tie.Need-weak-with-context-requires
 weak-with-context-requires c κs = tt
 
@@ -56,13 +52,14 @@ returns-2 c =
     let b = c .before in
     let a = b .before .before .before in
     let s = a .before .before in
-    let k = room-refused (said (s .args .m)) (s .args .out .now) (sendable (b .before .before)) (rw (size-is b) at (c .if2 .taken)) in
+    let short = rw (b .size-of .ensures) at (c .if2 .taken) in
+    let k = room-refused (said (s .args .m)) (s .args .out .now) (sendable (b .before .before)) short in
     record { answer = sym (k .0); after = sym (k .1); fits = fits s }
 
 put-message-requires : tie.Need-put-message-requires
 put-message-requires c κs =
     let b = c .before .before in
-    (b .before .kind-of .ensures, rw (b .size-of .ensures) at (c .before .if2 .left))
+    record { kind = b .before .kind-of .ensures; size = b .size-of .ensures; room = c .before .if2 .left }
 
 same-length : tie.Need-same-length
 same-length c = search needs
@@ -72,10 +69,10 @@ returns-3 c =
     let p = c .before .before in
     let b = p .before .before .before in
     let s = b .before .before .before .before .before in
-    let room = rw (size-is b) at (p .before .before .if2 .left) in
+    let room = rw (b .size-of .ensures) at (p .before .before .if2 .left) in
     let k = written (said (s .args .m)) (s .args .out .now) (sendable (b .before .before)) room in
     record {
-      answer = ap (λ (n : ℕ). record { refusal = refusal.accepted; bytes = n }) (size-is b) ∙ sym (k .0);
+      answer = ap (λ (n : ℕ). record { refusal = refusal.accepted; bytes = n }) (b .size-of .ensures) ∙ sym (k .0);
       after = p .put-message .ensures ∙ bytes-put (said (s .args .m)) (s .args .out .now) (fits s) room ∙ sym (k .1);
       fits = fits s;
     }

@@ -1,7 +1,7 @@
--- `entering::done` meets its contract.
+-- `replica::done` meets its contract.
 use borrow.Author.Needs.{needs}
-use Rattle.entering.proofs.done.Statement.{statement}
-use Rattle.entering.proofs.done.Tie as tie
+use Rattle.replica.proofs.done.Statement.{statement}
+use Rattle.replica.proofs.done.Tie as tie
 
 none-requires : tie.Need-none-requires
 none-requires c κs = search needs

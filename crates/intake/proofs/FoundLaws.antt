@@ -5,20 +5,14 @@ use mathlib.Core.List.{List, [], _∷_}
 use native.Mathlib.Nat.{add-zero, sub-zero}
 use native.Mathlib.Omega.{arith}
 use lib.ListN.{length}
-use Rattle.wire.specs.declared.Kind.the-variants.{Settlement}
-use Rattle.wire.specs.Layout.{sizeOf, layout, size}
+use Rattle.wire.specs.Layout.{leastMessage}
 use Rattle.wire.specs.Reader.{Outcome, message, end, refused, answered, readAt}
 use Rattle.wire.proofs.RoundTrip.{taken-least, taken-inside}
-use Rattle.printed.specs.Printout.{leastMessage, passed, found, foundFrom}
-use Rattle.printed.specs.Printout.{takenOf}
+use Rattle.intake.specs.Found.{passed, takenOf, found, foundFrom}
 
 -- how many bytes an outcome takes where so many are left
 abbrev pub bytesOf : Outcome → ℕ → ℕ
 bytesOf o left = takenOf (answered o) left
-
-least-bytes : sizeOf Settlement ≡ leastMessage
-unfolding sizeOf layout size
-least-bytes = refl
 
 -- n bytes, of those left, are taken: a whole message, or all of them
 pub data Takes (left : ℕ) (n : ℕ) : Type 0 where
@@ -30,7 +24,7 @@ unfolding answered
 takes s at h = go (readAt s at) refl
   where
     go : (o : Outcome) → readAt s at ≡ o → Takes (length s - at) (bytesOf o (length s - at))
-    go (message m n) e = whole (omega (arith, taken-least s at m n e, least-bytes)) (omega (arith, taken-inside s at m n e))
+    go (message m n) e = whole (taken-least s at m n e) (omega (arith, taken-inside s at m n e))
     go end e = all refl
     go (refused w) e = all refl
 
