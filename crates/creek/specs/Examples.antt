@@ -5,7 +5,7 @@ use mathlib.Core.List.{List, [], _∷_}
 use lib.ListN.{getD, replicate}
 use Rattle.sets.specs.declared.Context.{Context}
 use Rattle.request.specs.declared.Operation.{Operation}
-use Rattle.request.specs.declared.asked.Asked.{Asked}
+use Rattle.request.specs.declared.Asked.{Asked}
 use Rattle.request.specs.declared.Request.{Request}
 use Rattle.numbers.specs.Numbers.{numbered}
 use Rattle.request.specs.Operations.{codeRead, codeSet, codeAdd, codeClaim, codeMove}

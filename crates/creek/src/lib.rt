@@ -4,8 +4,8 @@ pub mod mark;
 
 use numbers::Clock;
 use numbers::Number;
+use request::Asked;
 use request::Request;
-use request::asked::Asked;
 
 // What a caller asks for when a request is made, with the clock reading.
 #[repr(C)]

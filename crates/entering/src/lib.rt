@@ -9,7 +9,7 @@ use numbers::PanelNo;
 use replica::CallResult;
 use replica::Core;
 use request::Request;
-use request::asked;
+use request::asks;
 use request::refusal;
 use sets::Context;
 use slots::common;
@@ -132,7 +132,7 @@ fn enter<'a>(
 fn ask(events: u8, i: Invocation) -> u8
     ensures { λ w. ⌜ InvokeRefused events i w ⌝ }
 {
-    if asked::bad(i.asked) {
+    if asks::bad(i.asked) {
         return refusal::BAD_OPERATION;
     }
     if numbers::MOST_EVENTS <= events {
@@ -259,7 +259,7 @@ fn judge(panels: u8, own: PanelNo, x: Request) -> u8
     if x.number.panel.0 == own.0 {
         return refusal::OWN_ECHO;
     }
-    if asked::bad(x.asked) {
+    if asks::bad(x.asked) {
         return refusal::BAD_OPERATION;
     }
     if request::bad_context(panels, x) {

@@ -7,7 +7,7 @@ use lib.Dec.{eqb}
 use borrow.Author.Tests.{eqb-true, eq-eqb}
 use Rattle.request.specs.declared.Operation.{Operation}
 use Rattle.sets.specs.declared.Context.{Context}
-use Rattle.request.specs.declared.asked.Asked.{Asked}
+use Rattle.request.specs.declared.Asked.{Asked}
 use Rattle.request.specs.declared.Request.{Request}
 use Rattle.request.specs.Operations.{sameOperation}
 use Rattle.request.specs.Asked.{sameAsked}

@@ -1,6 +1,6 @@
 -- What a request asks for, as one thing: zeros, equality, and what makes it bad.
 use mathlib.Core.Bool.{Bool, false, _&&_, Bool·beq}
-use Rattle.request.specs.declared.asked.Asked.{Asked}
+use Rattle.request.specs.declared.Asked.{Asked}
 use Rattle.request.specs.Operations.{noOperation, sameOperation, badOperation}
 
 -- zeros, where nothing is asked for

@@ -1,15 +1,14 @@
 // A request and its parts, no field of which is wider than its field in a bus message.
 //
 // Here are the types and what concerns a whole request: zeros, equality, and the test behind refusal 21. What a request asks for is in
-// `asked`, operations in `operations`, clock order in `order`, the refusal numbers in `refusal`; numbers and sets of numbers are crates of
+// `asks`, operations in `operations`, clock order in `order`, the refusal numbers in `refusal`; numbers and sets of numbers are crates of
 // their own.
 // Each contract gives the result by the definition of the same name in `specs/`; their laws are in `proofs/`.
-pub mod asked;
+pub mod asks;
 pub mod operations;
 pub mod order;
 pub mod refusal;
 
-use asked::Asked;
 use numbers::Clock;
 use numbers::Number;
 use sets::Context;
@@ -23,6 +22,13 @@ pub struct Operation {
     pub r: u8,
     pub q: u8,
     pub amount: u32,
+}
+
+// What a request asks for: an operation, strong or weak.
+#[repr(C)]
+pub struct Asked {
+    pub operation: Operation,
+    pub strong: bool,
 }
 
 // A request.
@@ -48,7 +54,7 @@ pub fn bare(n: Number) -> Request
     Request {
         number: n,
         clock: Clock(0),
-        asked: asked::none(),
+        asked: asks::none(),
         context: sets::empty(),
     }
 }
@@ -58,7 +64,7 @@ pub fn same(a: Request, b: Request) -> bool
     ensures { λ r. ⌜ r ≡ sameRequest a b ⌝ }
 {
     let numbers = numbers::same(a.number, b.number);
-    let asked = asked::same(a.asked, b.asked);
+    let asked = asks::same(a.asked, b.asked);
     let contexts = sets::same(a.context, b.context);
     numbers & (a.clock.0 == b.clock.0) & asked & contexts
 }

@@ -8,7 +8,7 @@ use lib.ListN.{getD}
 use Rattle.counters.specs.declared.Counters.{Counters}
 use Rattle.counters.specs.Counted.{undosCounted, executionsCounted}
 use Rattle.numbers.specs.Numbers.{noNumber, numberOf}
-use Rattle.request.specs.declared.asked.Asked.{Asked}
+use Rattle.request.specs.declared.Asked.{Asked}
 use Rattle.request.specs.Refusal as refused
 use Rattle.registers.specs.declared.Saved.{Saved}
 use Rattle.registers.specs.Effect.{Executed}

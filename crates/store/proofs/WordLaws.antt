@@ -7,7 +7,7 @@ use lib.Arith.{digits-mod}
 use lib.Dec.{eqb}
 use Rattle.lists.specs.Lists.{one}
 use Rattle.lists.proofs.ListLaws.{one-most}
-use Rattle.request.specs.declared.asked.Asked.{Asked}
+use Rattle.request.specs.declared.Asked.{Asked}
 use Rattle.store.specs.Requests.{byte, unitR, unitQ, unitStrength, unitAmount, askedIn, wordOf}
 
 -- the fields are no wider than in the word

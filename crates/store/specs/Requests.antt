@@ -7,7 +7,7 @@ use lib.Seq.{sets, slice}
 use lib.Dec.{eqb}
 use Rattle.lists.specs.Lists.{one}
 use Rattle.sets.specs.declared.Context.{Context}
-use Rattle.request.specs.declared.asked.Asked.{Asked}
+use Rattle.request.specs.declared.Asked.{Asked}
 use Rattle.request.specs.declared.Request.{Request}
 use Rattle.numbers.specs.Numbers.{clockReading, mostPanels, numberOf}
 use Rattle.sets.specs.Sets.{setOf}

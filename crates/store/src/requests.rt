@@ -1,8 +1,8 @@
 // Requests by slot in three lent arrays: the clocks, a word each of what they ask for, the words of the contexts one after the other.
 use numbers::Clock;
+use request::Asked;
 use request::Operation;
 use request::Request;
-use request::asked::Asked;
 use sets::Context;
 ghost use mathlib.Core.Path.{_≡_};
 ghost use Prim.Native.Nat.{_*_};

@@ -5,7 +5,7 @@ use mathlib.Core.Bool.{Bool, true, false}
 use mir.Val.{boolByte}
 use borrow.Author.Needs.{needs}
 use Rattle.lists.specs.Lists.{one}
-use Rattle.request.specs.declared.asked.Asked.{Asked}
+use Rattle.request.specs.declared.Asked.{Asked}
 use Rattle.lists.proofs.ListLaws.{one-most}
 use Rattle.store.specs.Requests.{wordOf}
 use Rattle.store.proofs.WordLaws.{Narrow, asked-read}

@@ -1,7 +1,7 @@
--- `asked::none` meets its contract by that of its callee.
+-- `asks::none` meets its contract by that of its callee.
 use borrow.Author.Needs.{needs}
-use Rattle.request.proofs.asked.none.Statement.{statement}
-use Rattle.request.proofs.asked.none.Tie as tie
+use Rattle.request.proofs.asks.none.Statement.{statement}
+use Rattle.request.proofs.asks.none.Tie as tie
 
 none-requires : tie.Need-none-requires
 none-requires c κs = search needs

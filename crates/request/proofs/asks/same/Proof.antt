@@ -1,8 +1,8 @@
--- `asked::same` meets its contract by that of its callee.
+-- `asks::same` meets its contract by that of its callee.
 use Rattle.request.specs.Asked.{sameAsked}
 use borrow.Author.Needs.{needs}
-use Rattle.request.proofs.asked.same.Statement.{statement}
-use Rattle.request.proofs.asked.same.Tie as tie
+use Rattle.request.proofs.asks.same.Statement.{statement}
+use Rattle.request.proofs.asks.same.Tie as tie
 
 same-requires : tie.Need-same-requires
 same-requires c κs = search needs

@@ -1,8 +1,8 @@
--- `asked::bad` meets its contract by that of its callee.
+-- `asks::bad` meets its contract by that of its callee.
 use Rattle.request.specs.Asked.{badAsked}
 use borrow.Author.Needs.{needs}
-use Rattle.request.proofs.asked.bad.Statement.{statement}
-use Rattle.request.proofs.asked.bad.Tie as tie
+use Rattle.request.proofs.asks.bad.Statement.{statement}
+use Rattle.request.proofs.asks.bad.Tie as tie
 
 bad-requires : tie.Need-bad-requires
 bad-requires c κs = search needs

@@ -1,15 +1,8 @@
 // What a request asks for, as one thing: zeros, equality, and the test behind refusal 3.
-use super::Operation;
+use super::Asked;
 use super::operations;
 ghost use mathlib.Core.Path.{_≡_};
 ghost use Rattle.request.specs.Asked.{nothingAsked, sameAsked, badAsked};
-
-// What a request asks for: an operation, strong or weak.
-#[repr(C)]
-pub struct Asked {
-    pub operation: Operation,
-    pub strong: bool,
-}
 
 // Zeros, where nothing is asked for.
 pub fn none() -> Asked
