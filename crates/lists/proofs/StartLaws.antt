@@ -5,12 +5,12 @@ use mathlib.Core.Path.{_≡_, refl, sym, ap, _∙_}
 use mathlib.Core.Bool.{Bool, true, false, cond}
 use mathlib.Core.List.{List, [], _∷_, _++_}
 use lib.ListN.{length, take, drop, getD, length-take, length-drop, take-append-drop}
-use lib.Seq.{slice, getD-take, getD-drop, take-take, take-append-le, take-append-add, length-take-le}
-use lib.Dec.{leb, ltb}
+use lib.Seq.{slice, getD-take, getD-drop, take-take, take-append-le, take-append-add, take-length, length-take-le}
+use lib.Dec.{eqb, leb, ltb, eqb·zero-suc, eqb·suc-suc}
 use borrow.Author.Tests.{leb-true, leb-false, ltb-true, ltb-false, le-leb, lt-leb}
 use Rattle.lists.specs.Lists.{count, somePasses, commonStart}
 use Rattle.lists.proofs.BoolLaws.{same-test}
-use Rattle.lists.proofs.ListLaws.{one-true, count-append, passes-count}
+use Rattle.lists.proofs.ListLaws.{one-true, count-append, passes-count, commonStart-most, commonStart-longest}
 
 -- ---- an element at a place
 
@@ -46,7 +46,7 @@ module _ {A : Type 0} where
             let behind = count-at (drop n l) (k - n) d (simp length-drop (omega arith)) there in
             lt-leb 1 (count p (take n l)) (omega (arith, parts))
 
--- ---- the common start of two lists that agree up to a place
+-- ---- the common start of two lists that agree up to a place, or behind one
 
 module _ {A : Type 0} (same : A → A → Bool) (self : (x : A) → same x x ≡ true) where
   commonStart-behind : (k : ℕ) (xs ys : List A) → k ≤ length xs → k ≤ length ys → take k xs ≡ take k ys
@@ -59,13 +59,48 @@ module _ {A : Type 0} (same : A → A → Bool) (self : (x : A) → same x x ≡
       let first : x ≡ y = cc in
       rw (← first, self x) (omega (arith, commonStart-behind k xs ys (omega arith) (omega arith) rest))
 
-  -- of the first n of one and the first m of the other, it may be looked for from that place on
+  -- of the first n of one and the first m of the other, it may be looked for from the place on up to which they agree
   pub commonStart-from : (xs ys : List A) (n m at : ℕ) → at ≤ n → at ≤ m → n ≤ length xs → m ≤ length ys → take at xs ≡ take at ys
       → at + commonStart same (slice at n xs) (slice at m ys) ≡ commonStart same (take n xs) (take m ys)
   commonStart-from xs ys n m at first second first-inside second-inside e =
       commonStart-behind at (take n xs) (take m ys) (rw (length-take-le n xs first-inside) first)
       (rw (length-take-le m ys second-inside) second)
       (take-take at n xs first ∙ e ∙ sym (take-take at m ys second))
+
+  -- of a list with which the other begins, it is the whole
+  commonStart-whole : (xs ys : List A) → length xs ≤ length ys → xs ≡ take (length xs) ys → commonStart same xs ys ≡ length xs
+  commonStart-whole xs ys h e =
+      let most = commonStart-most same xs ys in
+      omega (arith, commonStart-longest same self (length xs) xs ys (omega arith) h (take-length xs ∙ e))
+
+  -- of two lists that agree from place k on, it is that of the first k, or the whole where that reaches k
+  commonStart-before : (k : ℕ) (xs ys : List A) → k ≤ length xs → length xs ≤ length ys → drop k xs ≡ drop k (take (length xs) ys)
+      → commonStart same xs ys ≡ cond (eqb (commonStart same (take k xs) ys) k) (length xs) (commonStart same (take k xs) ys)
+  commonStart-before zero xs ys h l e = commonStart-whole xs ys l e
+  commonStart-before (suc k) [] ys h l e = absurd (omega arith)
+  commonStart-before (suc k) (x ∷ xs) [] h l e = absurd (omega arith)
+  commonStart-before (suc k) (x ∷ xs) (y ∷ ys) h l e =
+      step (same x y) _ _ _ (commonStart-before k xs ys (omega arith) (omega arith) e)
+    where
+      step : (b : Bool) (n c m : ℕ) → n ≡ cond (eqb c k) m c
+          → cond b (suc n) 0 ≡ cond (eqb (cond b (suc c) 0) (suc k)) (suc m) (cond b (suc c) 0)
+      step true n c m f = rw (eqb·suc-suc c k) (go (eqb c k) f)
+        where
+          go : (b : Bool) → n ≡ cond b m c → suc n ≡ cond b (suc m) (suc c)
+          go true g = ap suc g
+          go false g = ap suc g
+      step false n c m f = rw (eqb·zero-suc k)
+
+  -- of the first n of one and the first m of the other, it may be looked for up to the place k from which on they agree
+  pub commonStart-until : (xs ys : List A) (n m k : ℕ) → k ≤ n → n ≤ m → n ≤ length xs → m ≤ length ys → slice k n xs ≡ slice k n ys
+      → commonStart same (take n xs) (take m ys)
+      ≡ cond (eqb (commonStart same (take k xs) (take m ys)) k) n (commonStart same (take k xs) (take m ys))
+  commonStart-until xs ys n m k low high first second e =
+      let long : length (take n xs) ≡ n = length-take-le n xs first in
+      let inside : take (length (take n xs)) (take m ys) ≡ take n ys = ap (λ (j : ℕ). take j (take m ys)) long ∙ take-take n m ys high in
+      rw (take-take k n xs low, long) at
+      (commonStart-before k (take n xs) (take m ys) (omega arith) (omega (arith, length-take-le m ys second))
+      (e ∙ ap (drop k) (sym inside)))
 
 -- ---- an element behind a list
 

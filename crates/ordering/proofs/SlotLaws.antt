@@ -3,7 +3,7 @@
 use Prim.Native.Nat.{ℕ, _+_, _-_, _/_, _%_, _≤_, _<_}
 use native.Mathlib.Omega.{arith}
 use mathlib.Core.Path.{_≡_, refl, sym, ap, _∙_}
-use mathlib.Core.Bool.{Bool, true, false}
+use mathlib.Core.Bool.{Bool, true, false, cond}
 use mathlib.Core.List.{List, _∷_}
 use lib.ListN.{length, take, getD}
 use lib.Seq.{slice}
@@ -15,7 +15,7 @@ use Rattle.lists.proofs.BoolLaws.{same-test}
 use Rattle.lists.proofs.ListLaws.{count-all, count-never, pigeonhole}
 use Rattle.lists.proofs.MapLaws.{count-agree}
 use Rattle.lists.proofs.AllLaws.{all-of, all-weaken, all-drop, all-slice-at}
-use Rattle.lists.proofs.StartLaws.{commonStart-from}
+use Rattle.lists.proofs.StartLaws.{commonStart-from, commonStart-until}
 use Rattle.lists.proofs.StepLaws.{keep-taken, keep-passed, keep-end}
 use Rattle.sets.specs.declared.Context.{Context}
 use Rattle.request.specs.declared.Request.{Request}
@@ -51,6 +51,12 @@ comparison-asked clocks order from to i h low high =
 pub common-from : (xs ys : List ℕ) (n m at : ℕ) → at ≤ n → at ≤ m → n ≤ length xs → m ≤ length ys → take at xs ≡ take at ys
     → at + commonStart eqb (slice at n xs) (slice at m ys) ≡ commonStart eqb (take n xs) (take m ys)
 common-from = commonStart-from eqb (λ x. eq-eqb x x refl)
+
+-- of two lists that agree from `last` up to n, it may be looked for up to `last`: where it reaches that place, all the n are common
+pub common-until : (xs ys : List ℕ) (n m last : ℕ) → last ≤ n → n ≤ m → n ≤ length xs → m ≤ length ys → slice last n xs ≡ slice last n ys
+    → commonStart eqb (take n xs) (take m ys)
+    ≡ cond (eqb (commonStart eqb (take last xs) (take m ys)) last) n (commonStart eqb (take last xs) (take m ys))
+common-until = commonStart-until eqb (λ x. eq-eqb x x refl)
 
 -- ---- room
 

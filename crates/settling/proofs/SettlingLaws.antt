@@ -5,7 +5,7 @@ use mathlib.Core.Path.{_≡_, refl, sym, ap, _∙_, subst}
 use mathlib.Core.Bool.{Bool, true, false, _&&_, cond}
 use mathlib.Core.List.{List}
 use mathlib.Core.Option.{Option}
-use lib.ListN.{length, take, getD, length-append}
+use lib.ListN.{length, take, drop, getD, length-append}
 use lib.Seq.{slice, take-take, take-append-le, length-take-le}
 use lib.Dec.{eqb, leb}
 use borrow.Author.Tests.{eq-eqb, leb-true}
@@ -19,7 +19,8 @@ use Rattle.lists.proofs.BoolLaws.{true-not-false, both-true}
 use Rattle.lists.proofs.ListLaws.{count-most}
 use Rattle.slots.specs.Slots.{PartsAsk}
 use Rattle.slots.specs.Settlement.{settled, SettlementAsks, Settled}
-use Rattle.slots.proofs.SlotLaws.{common-from}
+use Rattle.slots.proofs.SlotLaws.{common-from, common-until}
+use Rattle.slots.proofs.SettlementLaws.{unmoved-behind}
 use Rattle.creek.specs.declared.Answer.{Answer}
 use Rattle.creek.specs.Plan.{hasNumber, lastEvent, lastClock, committing, committingFound}
 use Rattle.creek.specs.Stack.{stacked}
@@ -33,9 +34,9 @@ use Rattle.creek.proofs.LookupLaws.{lastEvent-committing, lastClock-committing}
 use Rattle.creek.proofs.SoundLaws.{step-sound}
 use Rattle.replica.specs.State.{State}
 use Rattle.replica.specs.Model.{orderOf, boardOf, planOf, bookOf, model, Inv, Kept}
-use Rattle.settling.specs.Settling.{settledAnswer}
+use Rattle.settling.specs.Settling.{agreed, settledAnswer}
 use Rattle.replica.proofs.States.{settledState}
-use Rattle.replica.proofs.ModelLaws.{executed-asks, executed-follows}
+use Rattle.replica.proofs.ModelLaws.{executed-follows}
 use Rattle.settling.proofs.SettlingHeldLaws.{keptAt, numberAt, contextAt, sound-plan, HeldAt, held-slot, held-number}
 use Rattle.settling.proofs.SettlingRefusalLaws.{Settles, settlement-accepted, tentative-found}
 use Rattle.settling.proofs.SettlingPlanLaws.{Found, settlement-asks, Settlement, committed-most, order-count, order-slots-then}
@@ -181,11 +182,22 @@ module _ {p : State} {n : Number} {s : ℕ} (inv : Inv p) (here : HeldAt p n s) 
   taken : isAccepted (bookOf p) (commit (numberAt p s)) ≡ true
   taken = eq-eqb _ _ (ap (λ (m : Number). refusal (bookOf p) (commit m)) (held-number inv here) ∙ settlement-accepted inv here t)
 
-  -- the executed list agrees with the order up to where the settlement changes it
-  module _ {order : List ℕ} {committed same : ℕ} (d : Settled (p .order) (p .committed) (p .ordered) (contextAt p s .words) s order committed)
-      (lowest : same ≡ min (p .executed) (p .committed)) where
-    pub start-asks : PartsAsk (p .stack) (p .executed) order (p .ordered) same
-    start-asks = executed-asks p inv order (p .ordered) same (omega arith) (omega (arith, inv .counts)) (inv .counts .ordered) (d .long)
+  -- the executed list agrees with the order up to where the settlement changes it, and behind the last slot that it moves
+  module _ {order : List ℕ} {committed end same last : ℕ}
+      (d : Settled (p .order) (p .committed) (p .ordered) (contextAt p s .words) s order committed end)
+      (lowest : same ≡ min (p .executed) (p .committed)) (latest : last ≡ min (p .executed) end) where
+    start-low : same ≤ last
+    start-low = omega (arith, d .committed, d .moved)
+
+    pub start-asks : PartsAsk (p .stack) last order (p .ordered) same
+    start-asks = record {
+      first = start-low;
+      first-inside = omega (arith, inv .counts);
+      first-long = inv .lengths .stack;
+      second = omega (arith, inv .counts);
+      second-inside = inv .counts .ordered;
+      second-long = d .long;
+    }
 
     agrees : take same (p .stack) ≡ take same order
     agrees =
@@ -200,26 +212,44 @@ module _ {p : State} {n : Number} {s : ℕ} (inv : Inv p) (here : HeldAt p n s) 
         (omega (arith, length-take-le (p .committed) (p .order) (omega (arith, inv .counts, inv .lengths .order))))
         ∙ take-take same (p .committed) (p .order) (omega arith))
 
-    common-is : same + commonStart eqb (slice same (p .executed) (p .stack)) (slice same (p .ordered) order)
+    agrees-behind : slice last (p .executed) (p .stack) ≡ slice last (p .executed) order
+    agrees-behind = ap (drop last) (executed-follows p inv) ∙ sym (unmoved-behind _ _ _ _ _ _ _ _ commit-asks d (p .executed) last latest)
+
+    common-is : agreed (p .executed) last (same + commonStart eqb (slice same last (p .stack)) (slice same (p .ordered) order))
         ≡ commonStart eqb (take (p .executed) (p .stack)) (take (p .ordered) order)
     common-is =
-        common-from (p .stack) order (p .executed) (p .ordered) same (omega arith) (omega (arith, inv .counts))
-        (omega (arith, inv .counts, inv .lengths .stack)) (omega (arith, inv .counts, d .long)) agrees
+        let stack-inside : p .executed ≤ length (p .stack) = omega (arith, inv .counts, inv .lengths .stack) in
+        let order-inside : p .ordered ≤ length order = omega (arith, inv .counts, d .long) in
+        ap (agreed (p .executed) last)
+        (common-from (p .stack) order last (p .ordered) same start-low (start-asks .second) (omega arith) order-inside agrees)
+        ∙ sym (common-until (p .stack) order (p .executed) (p .ordered) last (omega arith) (inv .counts .done) stack-inside order-inside
+        agrees-behind)
 
-  pub settled-kept : {order : List ℕ} {committed same executed response : ℕ} {due : Bool} {known awaiting : List ℕ} {a : Answer}
-      → Settled (p .order) (p .committed) (p .ordered) (contextAt p s .words) s order committed
+  pub settled-kept : {order : List ℕ} {committed end same last start executed response : ℕ} {due : Bool} {known awaiting : List ℕ}
+      {a : Answer}
+      → Settled (p .order) (p .committed) (p .ordered) (contextAt p s .words) s order committed end
       → same ≡ min (p .executed) (p .committed)
-      → executed ≡ same + commonStart eqb (slice same (p .executed) (p .stack)) (slice same (p .ordered) order)
+      → last ≡ min (p .executed) end
+      → start ≡ same + commonStart eqb (slice same last (p .stack)) (slice same (p .ordered) order)
+      → executed ≡ agreed (p .executed) last start
       → response ≡ getD (p .responses) (committed - 1) 0
       → due ≡ (member (p .awaiting) n && leb committed executed)
       → setOf known ≡ join (p .known) n
       → a ≡ settledAnswer due response
       → setOf awaiting ≡ awaitingAfter (p .awaiting) n (a .mark)
       → Kept p (commit n) (record { answer = a; state = settledState p order committed executed known awaiting })
-  settled-kept {order} {committed} {executed = executed} {response} {due} {known} {awaiting} {a} d lowest common kept awaited joined answered left =
+  settled-kept {order} {committed} {end} {last = last} {executed = executed} {response} {due} {known} {awaiting} {a}
+      d lowest latest common stays kept awaited joined answered left =
       let number : n ≡ numberAt p s = sym (held-number inv here) in
       let h : Settlement p s order committed executed =
-      record { invariant = inv; slot = held-slot inv here; found = found; settled = d; common = common ∙ common-is d lowest } in
+      record {
+        invariant = inv;
+        slot = held-slot inv here;
+        found = found;
+        end = end;
+        settled = d;
+        common = stays ∙ ap (agreed (p .executed) last) common ∙ common-is d lowest latest;
+      } in
       subst (λ (m : Number). Kept p (commit m) (record { answer = a; state = settledState p order committed executed known awaiting }))
       (held-number inv here)
       (settled-under h taken kept

@@ -92,7 +92,8 @@ pub record Settlement (p : State) (s : ℕ) (order : List ℕ) (committed execut
   pub invariant : Inv p
   pub slot : IsSlot s
   pub found : Found p s
-  pub settled : Settled (p .order) (p .committed) (p .ordered) (contextAt p s .words) s order committed
+  pub end : ℕ
+  pub settled : Settled (p .order) (p .committed) (p .ordered) (contextAt p s .words) s order committed end
   pub common : executed ≡ commonStart eqb (take (p .executed) (p .stack)) (take (p .ordered) order)
 
 -- the standing order afterwards
@@ -114,7 +115,7 @@ module _ {p : State} {s : ℕ} {order : List ℕ} {committed executed : ℕ} (h 
   front-taken = take-take (p .committed) (p .ordered) (p .order) (h .invariant .counts .committed)
 
   pub committed-most : committed ≤ p .ordered
-  committed-most = committed-inside _ _ _ _ _ _ _ asks (h .settled)
+  committed-most = committed-inside _ _ _ _ _ _ _ _ asks (h .settled)
 
   -- the slots of the order are rearranged
   pub order-count : (test : ℕ → Bool) → count test (take (p .ordered) order) ≡ count test (orderSlots p)
@@ -143,7 +144,7 @@ module _ {p : State} {s : ℕ} {order : List ℕ} {committed executed : ℕ} (h 
       let front : requestsAt p (take (p .committed) (p .order)) ≡ take (p .committed) (orderOf p) =
       ap (requestsAt p) (sym front-taken) ∙ map-take (keptAt p) (p .committed) (orderSlots p) in
       sym (map-take (keptAt p) committed (take (p .ordered) order))
-      ∙ ap (requestsAt p) (take-take committed (p .ordered) order committed-most ∙ committed-settled _ _ _ _ _ _ _ asks (h .settled))
+      ∙ ap (requestsAt p) (take-take committed (p .ordered) order committed-most ∙ committed-settled _ _ _ _ _ _ _ _ asks (h .settled))
       ∙ map-append (keptAt p) (take (p .committed) (p .order)) _
       ∙ rw (
         front,
@@ -155,7 +156,7 @@ module _ {p : State} {s : ℕ} {order : List ℕ} {committed executed : ℕ} (h 
   pub tentative-then : drop committed (orderThen p order) ≡ restThen p s
   tentative-then =
       sym (map-drop (keptAt p) committed (take (p .ordered) order))
-      ∙ ap (requestsAt p) (tentative-settled _ _ _ _ _ _ _ asks (h .settled))
+      ∙ ap (requestsAt p) (tentative-settled _ _ _ _ _ _ _ _ asks (h .settled))
       ∙ staying-side p s (tentativeSlots p) (asks .part .slots) (h .slot)
       ∙ ap (keep (staysTentative (keptAt p s))) (map-drop (keptAt p) (p .committed) (orderSlots p))
 

@@ -3,6 +3,7 @@
 use Prim.Native.Nat.{ℕ}
 use mathlib.Core.Bool.{Bool, not, cond}
 use mathlib.Core.List.{List}
+use lib.Dec.{eqb}
 use Rattle.sets.specs.declared.Context.{Context}
 use Rattle.numbers.specs.declared.Number.{Number}
 use Rattle.numbers.specs.Numbers.{noNumber, badNumber}
@@ -29,6 +30,10 @@ heldAnswer strong context known n =
     (cond (member known n) (refusedWith refused.settledAlready noNumber)
     (cond (not (subset context known)) (refusedWith refused.waits (lowestLacking context known))
     done))
+
+-- how many stay executed where the comparison up to `last`, behind which all agree, ended at `start`
+abbrev pub agreed : ℕ → ℕ → ℕ → ℕ
+agreed executed last start = cond (eqb start last) executed start
 
 -- the answer of an accepted settlement: where a stable reply is due, that with the response
 abbrev pub settledAnswer : Bool → ℕ → Answer

@@ -15,7 +15,7 @@ ghost use mathlib.Core.Path.{_≡_};
 ghost use Rattle.sets.specs.Sets.{setOf};
 ghost use Rattle.request.specs.Refusal as refusedBy;
 ghost use Rattle.creek.specs.Replies.{refusedWith};
-ghost use Rattle.settling.specs.Settling.{numberRefusal, heldAnswer, settledAnswer, CommitAsks, CommitKept};
+ghost use Rattle.settling.specs.Settling.{numberRefusal, heldAnswer, agreed, settledAnswer, CommitAsks, CommitKept};
 
 // Settle the request of number n.
 pub fn commit<'a>(
@@ -52,10 +52,13 @@ pub fn commit<'a>(
     let from = core.committed;
     let to = core.ordered;
     let words = context.words;
-    let committed = settlement::settle_order(order, from, to, &words, slot);
-    // What is executed agrees with the order up to where the settlement changes it.
+    let settled = settlement::settle_order(order, from, to, &words, slot);
+    let committed = settled.committed;
+    // What is executed agrees with the order up to where the settlement changes it, and behind the last slot that it moves.
     let same = replica::lower(core.executed, from);
-    let executed = common::common_start(stack, core.executed, order, to, same);
+    let last = replica::lower(core.executed, settled.end);
+    let start = common::common_start(stack, last, order, to, same);
+    let executed = agreed(core.executed, last, start);
     // The request is the last committed: it stays executed where the mark lies behind it, and its response was kept at its place.
     let response = responses[committed - 1];
     let awaited = members::member(awaiting, n);
@@ -116,6 +119,17 @@ fn waiting(missing: Number) -> Answer
         response: 0,
         mark: NOBODY,
     }
+}
+
+// How many stay executed where the comparison up to `last`, behind which all agree, ended at `start`: all where it came to `last`, else
+// those before `start`.
+fn agreed(executed: usize, last: usize, start: usize) -> usize
+    ensures { λ r. ⌜ r ≡ agreed executed last start ⌝ }
+{
+    if start == last {
+        return executed;
+    }
+    start
 }
 
 // The answer of an accepted settlement: where a stable reply is due, that with the response.

@@ -134,7 +134,7 @@ module _ (xs : List ℕ) (from to : ℕ) (words : List ℕ) (s : ℕ) (h : Settl
       ∙ sym (append-assoc (keep (inWords words) (slice from e xs)) (s ∷ keep (stays words s) (slice from e xs)) (slice e to xs))
 
   -- so their settlement is the settlement of all
-  pub settled-further : (ys : List ℕ) (r : ℕ) → Settled xs from e words s ys r → Settled xs from to words s ys r
+  pub settled-further : (ys : List ℕ) (r : ℕ) → Settled xs from e words s ys r e → Settled xs from to words s ys r e
   settled-further ys r d = record {
     committed = d .committed ∙ ap (λ (l : List ℕ). from + length l + 1) (sym named-before);
     first =
@@ -146,4 +146,7 @@ module _ (xs : List ℕ) (from to : ℕ) (words : List ℕ) (s : ℕ) (h : Settl
         ∙ ap (λ (l : List ℕ). take from xs ++ l) (sym settled-before);
     rest = drop-further e to ys xs high (d .rest);
     long = d .long;
+    moved = d .moved;
+    within = high;
+    unmoved = d .unmoved;
   }

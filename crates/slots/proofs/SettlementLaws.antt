@@ -1,22 +1,23 @@
--- Laws of the order after a settlement: its parts are the whole, a separation, a store and a copy make it, and what is committed and
--- tentative then.
-use Prim.Native.Nat.{ℕ, _+_, _-_, _≤_, _<_}
+-- Laws of the order after a settlement: its parts are the whole, a separation, a store and a copy make it, and what is committed,
+-- tentative and unmoved then.
+use Prim.Native.Nat.{ℕ, _+_, _-_, _≤_, _<_, min}
 use native.Mathlib.Omega.{arith}
+use native.Mathlib.Nat.{le-refl}
 use native.Mathlib.Numerals.{add-one}
 use mathlib.Core.Path.{_≡_, refl, sym, ap, _∙_}
 use mathlib.Core.Bool.{Bool, true, false, not, _&&_}
 use mathlib.Core.List.{List, [], _∷_, _++_, append-assoc}
 use lib.ListN.{length, take, drop, set, replicate, length-set, length-append}
 use lib.Seq.{slice, paste, take-take, take-suc-set, drop-set-lt, take-at, drop-at, take-paste, drop-paste, length-paste, length-slice}
-use lib.Seq.{length-take-le}
-use lib.Dec.{eqb}
-use borrow.Author.Tests.{eqb-true}
+use lib.Seq.{length-take-le, slice-empty}
+use lib.Dec.{eqb, leb}
+use borrow.Author.Tests.{eqb-true, leb-true, leb-false}
 use Rattle.lists.specs.Lists.{count, keep}
 use Rattle.lists.specs.Places.{All}
 use Rattle.lists.proofs.AllLaws.{all-of, all-append, all-keep}
 use Rattle.lists.proofs.ListLaws.{count-append, count-all, count-split}
 use Rattle.lists.proofs.MapLaws.{keep-agree}
-use Rattle.lists.proofs.PlaceLaws.{keep-equal}
+use Rattle.lists.proofs.PlaceLaws.{keep-equal, slice-further}
 use Rattle.ordering.specs.Slots.{inWords}
 use Rattle.slots.specs.Settlement.{stays, Separated, PutAsks, settled, SettlementAsks, Settled}
 
@@ -100,7 +101,14 @@ module _ (xs : List ℕ) (from to : ℕ) (words : List ℕ) (s : ℕ) (h : Settl
     abbrev copied : List ℕ
     copied = paste (set ys own s) (own + 1) zs (to - (own + 1))
 
-    pub settled-by : Settled xs from to words s copied (own + 1)
+    rest-copied : drop to copied ≡ drop to xs
+    rest-copied =
+        ap (λ (k : ℕ). drop k copied) (sym behind)
+        ∙ drop-paste (set ys own s) (own + 1) zs (to - (own + 1)) (omega (arith, put-asked)) (omega (arith, put-asked))
+        ∙ ap (λ (k : ℕ). drop k (set ys own s)) behind
+        ∙ drop-set-lt to ys own s own-inside ∙ d .rest
+
+    pub settled-by : Settled xs from to words s copied (own + 1) to
     unfolding settled
     settled-by = record {
       committed = omega (arith, d .end);
@@ -109,20 +117,19 @@ module _ (xs : List ℕ) (from to : ℕ) (words : List ℕ) (s : ℕ) (h : Settl
           ∙ take-paste (set ys own s) (own + 1) zs (to - (own + 1)) (omega (arith, put-asked)) (omega (arith, put-asked))
           ∙ ap (λ (k : ℕ). take (own + 1) (set ys own s) ++ take k zs) left
           ∙ simp (committed-front, d .staying, append-assoc);
-      rest =
-          ap (λ (k : ℕ). drop k copied) (sym behind)
-          ∙ drop-paste (set ys own s) (own + 1) zs (to - (own + 1)) (omega (arith, put-asked)) (omega (arith, put-asked))
-          ∙ ap (λ (k : ℕ). drop k (set ys own s)) behind
-          ∙ drop-set-lt to ys own s own-inside ∙ d .rest;
+      rest = rest-copied;
       long =
           length-paste (set ys own s) (own + 1) zs (to - (own + 1)) (omega (arith, put-asked)) (omega (arith, put-asked))
           ∙ put-asked .long;
+      moved = omega (arith, own-inside);
+      within = le-refl to;
+      unmoved = rest-copied;
     }
 
 -- ---- after a settlement
 
-module _ (xs : List ℕ) (from to : ℕ) (words : List ℕ) (s : ℕ) (ys : List ℕ) (r : ℕ)
-    (h : SettlementAsks xs from to words s) (d : Settled xs from to words s ys r) where
+module _ (xs : List ℕ) (from to : ℕ) (words : List ℕ) (s : ℕ) (ys : List ℕ) (r e : ℕ)
+    (h : SettlementAsks xs from to words s) (d : Settled xs from to words s ys r e) where
   -- what it was, those named in their order, and s itself
   committed : List ℕ
   committed = take from xs ++ (keep (inWords words) (slice from to xs) ++ (s ∷ []))
@@ -136,7 +143,7 @@ module _ (xs : List ℕ) (from to : ℕ) (words : List ℕ) (s : ℕ) (ys : List
   committed-length = simp length-append (omega (arith, d .committed, length-take-le from xs (omega (arith, h .part))))
 
   pub committed-inside : r ≤ to
-  committed-inside = omega (arith, d .committed, settlement-fits xs from to words s h)
+  committed-inside = omega (arith, d .moved, d .within)
 
   -- the committed list afterwards
   pub committed-settled : take r ys ≡ take from xs ++ (keep (inWords words) (slice from to xs) ++ (s ∷ []))
@@ -146,3 +153,19 @@ module _ (xs : List ℕ) (from to : ℕ) (words : List ℕ) (s : ℕ) (ys : List
   -- the tentative list afterwards: those that stay
   pub tentative-settled : slice r to ys ≡ keep (stays words s) (slice from to xs)
   tentative-settled = ap (drop r) order-split ∙ drop-at committed (keep (stays words s) (slice from to xs)) r committed-length
+
+  -- up to any place n, what stands behind the last that moved is as it was
+  pub unmoved-behind : (n k : ℕ) → k ≡ min n e → slice k n ys ≡ slice k n xs
+  unmoved-behind n k lowest = go (leb n e) refl
+    where
+      go : (b : Bool) → leb n e ≡ b → slice k n ys ≡ slice k n xs
+      go true f =
+          let low = leb-true n e f in
+          let end : k ≡ n = omega arith in
+          rw end (slice-empty n ys ∙ sym (slice-empty n xs))
+      go false f =
+          let high = leb-false n e f in
+          let end : k ≡ e = omega arith in
+          rw end
+          (slice-further e n (omega arith) ys xs (omega (arith, d .long, d .within, h .part)) (omega (arith, d .within, h .part))
+          (d .unmoved))

@@ -46,12 +46,15 @@ pub record SettlementAsks (order : List ℕ) (from to : ℕ) (words : List ℕ) 
   pub once : count (eqb s) (slice from to order) ≡ 1
   pub apart : inWords words s ≡ false
 
--- xs became ys, of which the first r are committed: those that were, those named, s itself
-pub record Settled (xs : List ℕ) (from to : ℕ) (words : List ℕ) (s : ℕ) (ys : List ℕ) (r : ℕ) : Type 0 where
+-- xs became ys, of which the first r are committed: those that were, those named, s itself; from place e on it is as it was
+pub record Settled (xs : List ℕ) (from to : ℕ) (words : List ℕ) (s : ℕ) (ys : List ℕ) (r e : ℕ) : Type 0 where
   pub committed : r ≡ from + length (keep (inWords words) (slice from to xs)) + 1
   pub first : take to ys ≡ take from xs ++ settled words s (slice from to xs)
   pub rest : drop to ys ≡ drop to xs
   pub long : length ys ≡ mostSlots
+  pub moved : r ≤ e
+  pub within : e ≤ to
+  pub unmoved : drop e ys ≡ drop e xs
 
 -- ---- the last place that a settlement moves
 

@@ -6,6 +6,12 @@ ghost use lib.Seq.{paste};
 ghost use Rattle.ordering.specs.Slots.{mostSlots, inWords};
 ghost use Rattle.slots.specs.Settlement.{MovingAsks, MovingEnd, SeparationAsks, Separated, PutAsks, SettlementAsks, Settled};
 
+// What a settlement made of an order: how many are committed then, and the place behind the last slot that it moved.
+pub struct SettledOrder {
+    pub committed: usize,
+    pub end: usize,
+}
+
 const EVENTS: u16 = numbers::MOST_EVENTS as u16;
 
 // Whether the number of slot t is in the set of these words.
@@ -78,17 +84,17 @@ fn put_first(xs: &mut [u16; 512], at: usize, ys: &[u16; 512], n: usize)
     }
 }
 
-// Puts the places from..to of the order, the tentative slots, into the order of a settlement of that slot with that context; how many
-// are committed then. What stands behind the last that moves is left alone.
+// Puts the places from..to of the order, the tentative slots, into the order of a settlement of that slot with that context. What
+// stands behind the last that moves is left alone.
 pub fn settle_order(
     order: &mut [u16; 512],
     from: usize,
     to: usize,
     words: &[u64; 8],
     slot: u16,
-) -> usize
+) -> SettledOrder
     requires { ⌜ SettlementAsks (now order) from to (now words) slot ⌝ }
-    ensures { λ r. ⌜ Settled (now (order .entry)) from to (now (words .entry)) slot (now (order .exit)) r ⌝ }
+    ensures { λ r. ⌜ Settled (now (order .entry)) from to (now (words .entry)) slot (now (order .exit)) (r .committed) (r .end) ⌝ }
 {
     let mut staying = [0u16; 512];
     let end = moving_end(order, to, words, slot);
@@ -96,5 +102,5 @@ pub fn settle_order(
     order[own] = slot;
     let committed = own + 1;
     put_first(order, committed, &staying, end - committed);
-    committed
+    SettledOrder { committed, end }
 }

@@ -9,7 +9,6 @@ use Rattle.slots.specs.Slots.{IsSlot}
 use Rattle.slots.specs.Settlement.{Settled}
 use Rattle.store.specs.Requests.{askedIn, contextAt}
 use Rattle.sets.specs.Sets.{setOf}
-use Rattle.slots.proofs.SettlementLaws.{committed-inside}
 use Rattle.creek.specs.Sound.{mostRequests}
 use Rattle.replica.specs.State.{State}
 use Rattle.replica.specs.Model.{Inv}
@@ -38,12 +37,16 @@ slotted c = read c .before .before
 abbrev tested : tie.After-settle-order → tie.Else2
 tested c = c .before .before .before .before
 
--- where the order is settled, from where it is compared with the executed list
-abbrev settled : tie.After-common-start → tie.After-settle-order
-settled c = c .before .before .before
+-- where the order is settled, from where the last place to compare is known
+abbrev settled : tie.After-lower2 → tie.After-settle-order
+settled c = c .before .before
 
--- where the order is compared with the executed list, from where the number has joined the known ones
-abbrev adjusted : tie.After-join → tie.After-common-start
+-- where that place is known, from where the executed list is adjusted to the order
+abbrev bounded : tie.After-agreed → tie.After-lower2
+bounded c = c .before .before .before
+
+-- where it is adjusted, from where the number has joined the known ones
+abbrev adjusted : tie.After-join → tie.After-agreed
 adjusted c = c .before .before .before .before .before
 
 -- where it has joined them, from where the waiting is ended
@@ -90,21 +93,13 @@ settled-by : (c : tie.After-settle-order)
     → let slot = slotted (tested c) in
     let a = start slot in
     Settled (a .args .order .now) (a .args .core .committed) (a .args .core .ordered)
-    (contextAt (a .args .contexts .now) (slot .slot-of .result) .words) (slot .slot-of .result) (c .settle-order .last .0) (c .settle-order .result)
+    (contextAt (a .args .contexts .now) (slot .slot-of .result) .words) (slot .slot-of .result) (c .settle-order .last .0)
+    (c .settle-order .result .committed) (c .settle-order .result .end)
 settled-by c = rw (read (tested c) .context-at .ensures) at (c .settle-order .ensures)
 
 -- how many are committed afterwards
-committed-fits : (c : tie.After-settle-order) → c .settle-order .result ≤ mostRequests
-committed-fits c =
-    let slot = slotted (tested c) in
-    let a = start slot in
-    let inv = a .pre .invariant in
-    omega (
-      arith,
-      committed-inside _ _ _ _ _ _ _
-          (commit-asks {p = lent a (a .pre .panel)} inv (held-at slot (a .pre .panel) inv) (to-settle (tested c) (a .pre .panel) inv)) (settled-by c),
-      inv .counts,
-    )
+committed-fits : (c : tie.After-settle-order) → c .settle-order .result .committed ≤ mostRequests
+committed-fits c = omega (arith, settled-by c, start (slotted (tested c)) .pre .invariant .counts)
 
 -- ---- what the function needs
 
@@ -159,23 +154,33 @@ settle-order-requires c κs =
 lower-requires : tie.Need-lower-requires
 lower-requires c κs = search needs
 
+lower-requires-2 : tie.Need-lower-requires-2
+lower-requires-2 c κs = search needs
+
 common-start-requires : tie.Need-common-start-requires
 common-start-requires c κs =
-    let order = c .before .before in
+    let last = c .before in
+    let order = settled last in
     let else = tested order in
     let slot = slotted else in
     let a = start slot in
     start-asks {p = lent a (a .pre .panel)} (a .pre .invariant) (held-at slot (a .pre .panel) (a .pre .invariant))
-    (to-settle else (a .pre .panel) (a .pre .invariant)) (settled-by order) (c .before .lower .ensures)
+    (to-settle else (a .pre .panel) (a .pre .invariant)) (settled-by order) (last .before .lower .ensures)
+    (last .lower2 .ensures)
+
+agreed-requires : tie.Need-agreed-requires
+agreed-requires c κs = search needs
 
 sub-response : tie.Need-sub-response
 sub-response c = search needs
 
 mul-response : tie.Need-mul-response
-mul-response c = omega (arith, committed-fits (settled c))
+mul-response c = omega (arith, committed-fits (settled (bounded c)))
 
 element-copy-out-response : tie.Need-element-copy-out-response
-element-copy-out-response c = omega (arith, committed-fits (settled c), settled c .settle-order .ensures .committed)
+element-copy-out-response c =
+    let order = settled (bounded c) in
+    omega (arith, committed-fits order, settled-by order .committed)
 
 member-requires : tie.Need-member-requires
 member-requires c κs = search needs
@@ -191,25 +196,29 @@ end-waiting-requires c κs = search needs
 
 add-after : tie.Need-add-after
 add-after c =
-    let a = start (slotted (tested (settled (adjusted (joined (c .before)))))) in
+    let a = start (slotted (tested (settled (bounded (adjusted (joined (c .before))))))) in
     omega (arith, commits-fit (lent a (a .pre .panel)) (a .pre .invariant))
 
 returns-3 : tie.Need-returns-3
 returns-3 c =
     let left = c .before in
     let known = joined left in
-    let start-found = adjusted known in
-    let order = settled start-found in
+    let execution = adjusted known in
+    let last = bounded execution in
+    let order = settled last in
     let slot = slotted (tested order) in
     let a = start slot in
     record {
       kept = λ p inv.
           settled-kept {p = lent a p} inv (held-at slot p inv) (to-settle (tested order) p inv)
           (settled-by order)
-          (start-found .before .before .lower .ensures)
-          (start-found .common-start .ensures)
+          (last .before .lower .ensures)
+          (last .lower2 .ensures)
+          (execution .before .common-start .ensures)
+          (execution .agreed .ensures)
           refl
-          (ap (λ (b : Bool). b && leb (order .settle-order .result) (start-found .common-start .result)) (known .before .before .member .ensures))
+          (ap (λ (b : Bool). b && leb (order .settle-order .result .committed) (execution .agreed .result))
+          (known .before .before .member .ensures))
           (known .join .ensures)
           (left .before .before .settled-answer .ensures)
           (left .end-waiting .ensures);
@@ -231,7 +240,9 @@ commit-spec =
     returns-2
     settle-order-requires
     lower-requires
+    lower-requires-2
     common-start-requires
+    agreed-requires
     sub-response
     mul-response
     element-copy-out-response
