@@ -24,7 +24,7 @@ pub fn next_message<'s, 'a>(r: &'s mut Reader<'a>) -> Reading
     ensures { λ p. ⌜ (p ≡ nextMessage (now (r .entry))) × (now (r .exit) ≡ advanced (now (r .entry))) ⌝ }
 {
     let at = r.at;
-    let p = wire::reader::read(r.bytes, at);
+    let p = wire::read(r.bytes, at);
     r.at = at + p.taken;
     p
 }

@@ -5,7 +5,6 @@ use encoding::calls::CALL_SIZE;
 use encoding::calls::CALLS_AT;
 use libc::STDOUT_FILENO;
 use wire::layout::LONGEST_MESSAGE;
-use wire::reader;
 ghost use Prim.Native.Nat.{_+_, _*_, _≤_, _<_};
 ghost use lib.ListN.{length};
 ghost use Rattle.encoding.specs.Encoding.{answerSize, responseWidth};
@@ -90,7 +89,7 @@ fn response_at(answers: &[u8], at: usize) -> u64
 fn print_spread(answers: &[u8], at: usize)
     requires { ⌜ at ≤ length (now answers) ⌝ }
 {
-    let reading = reader::read(answers, at);
+    let reading = wire::read(answers, at);
     if reading.message.request.number.event.0 != 0 {
         print_bytes(answers, at, reading.taken);
     }

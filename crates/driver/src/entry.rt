@@ -5,7 +5,6 @@ use encoding::calls;
 use replica::CallResult;
 use replica::Core;
 use wire::Message;
-use wire::reader;
 ghost use Prim.Native.Nat.{_<_};
 ghost use lib.ListN.{length};
 ghost use Rattle.replica.specs.State.{packed};
@@ -74,7 +73,7 @@ pub(crate) fn call(
             responses,
         );
     }
-    let reading = reader::read(s, at + 1);
+    let reading = wire::read(s, at + 1);
     let message = reading.message;
     let called = message_call(
         core,
@@ -123,7 +122,7 @@ fn message_call<'a>(
 {
     let request = message.request;
     if tag == calls::INVOKE {
-        let asked = calls::invocation_of(request);
+        let asked = encoding::invocation_of(request);
         return entering::invoke(
             core,
             held,

@@ -54,8 +54,8 @@ pub fn run(
         (now (operations .exit)) (now (contexts .exit)) (now (order .exit)) (now (stack .exit)) (now (registers .exit)) (now (saved .exit))
         (now (responses .exit))) ⌝ }
 {
-    let panels = calls::byte_at(s, calls::PANELS_AT);
-    let own = calls::byte_at(s, calls::OWN_AT);
+    let panels = encoding::byte_at(s, calls::PANELS_AT);
+    let own = encoding::byte_at(s, calls::OWN_AT);
     let opened = replica::fresh(
         held,
         known,
@@ -71,7 +71,7 @@ pub fn run(
         panels,
         PanelNo(own),
     );
-    let count = calls::call_count(s);
+    let count = encoding::call_count(s);
     let refusal = opened.refusal;
     let core = opened.core;
     let counters = opened.counters;
@@ -171,7 +171,7 @@ fn run_all(
         );
         panel = called.core;
         counted = called.counters;
-        behind = answers::put_answer(out, behind, called.answer);
+        behind = encoding::put_answer(out, behind, called.answer);
         at += calls::CALL_SIZE;
         i += 1;
     }

@@ -3,7 +3,6 @@ use creek::mark::NOBODY;
 use numbers::Number;
 use replica::Core;
 use steps::DueReply;
-use store::requests;
 ghost use mathlib.Core.Path.{_≡_};
 ghost use Rattle.steps.specs.Steps.{UndoAsks, ExecuteAsks};
 ghost use Rattle.due.specs.Due.{noReply, AllUndone, AllExecuted, DueKept};
@@ -101,7 +100,7 @@ fn execute_all<'a>(
     let mut at = core.executed;
     while at < ordered {
         let slot = order[at];
-        let asked = requests::asked_at(operations, slot as usize);
+        let asked = store::asked_at(operations, slot as usize);
         let operation = asked.operation;
         let before = registers::save(registers, operation);
         let word = registers::saved_word(before);

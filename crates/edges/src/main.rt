@@ -86,17 +86,17 @@ fn idle_undo() -> u8 {
 // A kind 1 message of 17 bytes present.
 fn cut_short() -> u8 {
     let bytes = [18u8, 0, 1, 0, 0, 1, 10, 0, 0, 0, 2, 4, 0, 0, 6, 0, 0];
-    let reading = wire::reader::read(&bytes, 0);
+    let reading = wire::read(&bytes, 0);
     let answer = reading.answer;
-    wire::reader::refusal_of(answer)
+    wire::refusal_of(answer)
 }
 
 // The same with its length saying 19.
 fn bad_length() -> u8 {
     let bytes = [19u8, 0, 1, 0, 0, 1, 10, 0, 0, 0, 2, 4, 0, 0, 6, 0, 0];
-    let reading = wire::reader::read(&bytes, 0);
+    let reading = wire::read(&bytes, 0);
     let answer = reading.answer;
-    wire::reader::refusal_of(answer)
+    wire::refusal_of(answer)
 }
 
 // Prints a number on a line of its own.

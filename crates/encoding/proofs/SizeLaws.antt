@@ -11,7 +11,6 @@ use Rattle.text.specs.Placed.{Room}
 use Rattle.request.specs.declared.Request.{Request}
 use Rattle.creek.specs.declared.Answer.{Answer}
 use Rattle.creek.specs.Calls.{Replica}
-use Rattle.replica.specs.State.{State}
 use Rattle.wire.specs.Integers.{integerBytes}
 use Rattle.wire.specs.Layout.{longestMessage}
 use Rattle.wire.specs.Message.{request, bytesOf, weakWithContext}

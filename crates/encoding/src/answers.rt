@@ -1,9 +1,7 @@
 // The bytes of an answer.
 use creek::Answer;
 use request::Request;
-use wire::held;
 use wire::layout::LONGEST_MESSAGE;
-use wire::writer;
 ghost use Rattle.text.specs.Placed.{Room, Placed};
 ghost use Rattle.encoding.specs.Encoding.{answerBytes, messageBytes};
 
@@ -34,7 +32,7 @@ fn put_message(out: &mut [u8], at: usize, x: Request) -> usize
     ensures { λ behind. ⌜ Placed (now (out .entry)) at (messageBytes x) (now (out .exit)) behind ⌝ }
 {
     let mut message = [0u8; LONGEST_MESSAGE];
-    let spread = held::of_request(x);
-    let written = writer::write(&mut message, spread);
+    let spread = wire::of_request(x);
+    let written = wire::write(&mut message, spread);
     text::put_bytes(out, at, &message)
 }

@@ -4,3 +4,8 @@
 // entries of a list lead to.
 pub mod answers;
 pub mod calls;
+
+pub use answers::put_answer;
+pub use calls::byte_at;
+pub use calls::call_count;
+pub use calls::invocation_of;

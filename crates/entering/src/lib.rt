@@ -12,11 +12,6 @@ use request::Request;
 use request::asks;
 use request::refusal;
 use sets::Context;
-use slots::common;
-use slots::insertion;
-use slots::later;
-use store::members;
-use store::requests;
 ghost use mathlib.Core.Path.{_≡_};
 ghost use mathlib.Core.Option.{some};
 ghost use lib.Seq.{slice};
@@ -83,7 +78,7 @@ pub fn invoke<'a>(
         slot,
         x,
     );
-    members::join(awaiting, number);
+    store::join(awaiting, number);
     let clock = raised.clock;
     let mut after = core;
     after.ordered = core.ordered + 1;
@@ -118,14 +113,14 @@ fn enter<'a>(
 {
     let n = core.ordered;
     let number = x.number;
-    let at = insertion::place(clocks, order, core.committed, n, x.clock.0, slot);
-    insertion::insert_at(order, n, at, slot);
-    members::join(held, number);
+    let at = slots::place(clocks, order, core.committed, n, x.clock.0, slot);
+    slots::insert_at(order, n, at, slot);
+    store::join(held, number);
     know(known, x.asked.strong, number);
-    requests::put_request(clocks, operations, contexts, slot, x);
+    store::put_request(clocks, operations, contexts, slot, x);
     // What is executed agrees with the order up to the place of x.
     let same = replica::lower(core.executed, at);
-    common::common_start(stack, core.executed, order, n + 1, same)
+    slots::common_start(stack, core.executed, order, n + 1, same)
 }
 
 // The refusals of an invocation after an own request of that event: bad operation, shift full.
@@ -167,7 +162,7 @@ fn context_for<'a>(
     ensures { λ c. ⌜ c ≡ contextFor i known (now (clocks .entry)) slot (slice from to (now (order .entry))) ⌝ }
 {
     if i.asked.strong {
-        return later::without_later(known, clocks, order, from, to, i.clock.0, slot);
+        return slots::without_later(known, clocks, order, from, to, i.clock.0, slot);
     }
     sets::empty()
 }
@@ -222,8 +217,8 @@ pub fn deliver<'a>(
         return CallResult { core, answer };
     }
     let slot = numbers::slot_of(x.number);
-    if members::member(held, x.number) {
-        let there = requests::request_at(clocks, operations, contexts, slot);
+    if store::member(held, x.number) {
+        let there = store::request_at(clocks, operations, contexts, slot);
         let answer = replica::refused(held_refusal(there, x));
         return CallResult { core, answer };
     }
@@ -283,6 +278,6 @@ fn know(known: &mut [u64; 8], strong: bool, n: Number)
     ensures { λ _. ⌜ setOf (now (known .exit)) ≡ knownWith (setOf (now (known .entry))) strong n ⌝ }
 {
     if !strong {
-        members::join(known, n);
+        store::join(known, n);
     }
 }

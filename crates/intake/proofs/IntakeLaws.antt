@@ -10,7 +10,7 @@ use Rattle.settling.specs.Settling.{CommitKept}
 use Rattle.wire.specs.declared.Message.{Message}
 use Rattle.wire.specs.declared.Subject.the-variants.{Request, Settlement}
 use Rattle.wire.specs.declared.Reading.{Reading}
-use Rattle.wire.specs.declared.Answer.the-variants.{Message as aMessage, End, Refused}
+use Rattle.wire.specs.declared.ReadAnswer.the-variants.{Message as aMessage, End, Refused}
 use Rattle.wire.specs.Message.{said}
 use Rattle.wire.specs.Reader.{Outcome, message, answered}
 use Rattle.wire.proofs.HeldLaws.{said-settlement, said-request}

@@ -1,15 +1,15 @@
 -- What the reader answered tells what stands at the place.
 use Prim.Native.Nat.{ℕ}
-use mathlib.Core.Path.{_≡_, refl, sym, ap, _∙_, subst}
+use mathlib.Core.Path.{_≡_, sym, ap, _∙_, subst}
 use native.Mathlib.Omega.{arith}
 use Rattle.wire.specs.declared.Reading.{Reading}
-use Rattle.wire.specs.declared.Answer.{Answer}
-use Rattle.wire.specs.declared.Answer.the-variants.{Message as aMessage, End, Refused}
+use Rattle.wire.specs.declared.ReadAnswer.{ReadAnswer}
+use Rattle.wire.specs.declared.ReadAnswer.the-variants.{Message as aMessage, End, Refused}
 use Rattle.wire.specs.Message.{BusMessage, said}
 use Rattle.wire.specs.Reader.{Outcome, message, end, refused, answered, refusalOf}
 use Rattle.wire.proofs.HeldLaws.{said-held}
 
-abbrev which : Answer → ℕ
+abbrev which : ReadAnswer → ℕ
 which aMessage = 0
 which End = 1
 which (Refused w) = 2

@@ -4,7 +4,6 @@ use mathlib.Core.Path.{_≡_}
 use mathlib.Core.Bool.{Bool, false}
 use mathlib.Core.List.{List}
 use Rattle.numbers.specs.Numbers.{noNumber}
-use Rattle.request.specs.Refusal.{accepted}
 use Rattle.creek.specs.declared.Answer.{Answer}
 use Rattle.creek.specs.Book.{Call, Book, deliver, commit, isAccepted}
 use Rattle.creek.specs.Calls.{Replica, step, answer}

@@ -8,7 +8,6 @@ use replica::Core;
 use request::refusal;
 use wire::Message;
 use wire::Subject;
-use wire::reader;
 ghost use mathlib.Core.Path.{_≡_};
 ghost use Rattle.wire.specs.Message.{said};
 ghost use Rattle.wire.specs.Reader.{readAt};
@@ -99,10 +98,10 @@ pub fn receive<'a>(
         (readAt (now (bytes .entry)) at) (now (held .exit)) (now (known .exit)) (now (awaiting .exit)) (now (clocks .exit))
         (now (operations .exit)) (now (contexts .exit)) (now (order .exit)) r ⌝ }
 {
-    let reading = reader::read(bytes, at);
+    let reading = wire::read(bytes, at);
     let found = reading.answer;
     match found {
-        wire::Answer::Message => {
+        wire::ReadAnswer::Message => {
             let called = take(
                 core,
                 held,
@@ -127,8 +126,8 @@ pub fn receive<'a>(
                 receipt,
             }
         }
-        wire::Answer::End => untaken(core, refusal::ACCEPTED),
-        wire::Answer::Refused(refusal) => untaken(core, refusal),
+        wire::ReadAnswer::End => untaken(core, refusal::ACCEPTED),
+        wire::ReadAnswer::Refused(refusal) => untaken(core, refusal),
     }
 }
 

@@ -5,8 +5,6 @@ use request::Request;
 use request::refusal;
 use wire::Subject;
 use wire::Written;
-use wire::reader;
-use wire::writer;
 ghost use mathlib.Core.Path.{_≡_};
 ghost use Rattle.sheet.specs.Putting.{Printed};
 ghost use Rattle.mizzencord.specs.Lists.{Answered};
@@ -94,9 +92,9 @@ pub extern "C" fn mizzencord_run(calls: &[u8], out: &mut [u8]) -> ListResult
 pub extern "C" fn mizzencord_read(bytes: &[u8], at: usize) -> MessageRead
     ensures { λ r. ⌜ r ≡ readFrom (answered (readAt (now (bytes .entry)) at)) ⌝ }
 {
-    let reading = reader::read(bytes, at);
+    let reading = wire::read(bytes, at);
     let answer = reading.answer;
-    let refusal = reader::refusal_of(answer);
+    let refusal = wire::refusal_of(answer);
     let message = shown(reading.message);
     MessageRead {
         refusal,
@@ -111,7 +109,7 @@ pub extern "C" fn mizzencord_write(message: Message, out: &mut [u8]) -> Written
     ensures { λ r. ⌜ Wrote (heldFor message) (now (out .entry)) (now (out .exit)) r ⌝ }
 {
     let held = held_for(message);
-    writer::write(out, held)
+    wire::write(out, held)
 }
 
 // A message as C holds it.

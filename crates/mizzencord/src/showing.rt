@@ -16,7 +16,7 @@ pub extern "C" fn mizzencord_register(p: &Panel, k: u8) -> RegisterValue
     requires { ⌜ Inv (memory (now p)) ⌝ }
     ensures { λ r. ⌜ RegisterShown (memory (now (p .entry))) k r ⌝ }
 {
-    replica::showing::register(&p.registers, k)
+    replica::register(&p.registers, k)
 }
 
 // The count of accepted requests.
@@ -25,7 +25,7 @@ pub extern "C" fn mizzencord_requests(p: &Panel) -> usize
     requires { ⌜ Inv (memory (now p)) ⌝ }
     ensures { λ n. ⌜ n ≡ requestsShown (model (memory (now (p .entry)))) ⌝ }
 {
-    replica::showing::requests(p.core)
+    replica::requests(p.core)
 }
 
 // The length of the settled list.
@@ -34,7 +34,7 @@ pub extern "C" fn mizzencord_committed(p: &Panel) -> usize
     requires { ⌜ Inv (memory (now p)) ⌝ }
     ensures { λ n. ⌜ n ≡ committedShown (model (memory (now (p .entry)))) ⌝ }
 {
-    replica::showing::committed(p.core)
+    replica::committed(p.core)
 }
 
 // The count of accepted settlements.
@@ -43,7 +43,7 @@ pub extern "C" fn mizzencord_commits(p: &Panel) -> u32
     requires { ⌜ Inv (memory (now p)) ⌝ }
     ensures { λ n. ⌜ n ≡ commitsShown (model (memory (now (p .entry)))) ⌝ }
 {
-    replica::showing::commits(p.core)
+    replica::commits(p.core)
 }
 
 // The steps owed.
@@ -52,7 +52,7 @@ pub extern "C" fn mizzencord_owed(p: &Panel) -> usize
     requires { ⌜ Inv (memory (now p)) ⌝ }
     ensures { λ n. ⌜ n ≡ owedShown (model (memory (now (p .entry)))) ⌝ }
 {
-    replica::showing::owed(p.core)
+    replica::owed(p.core)
 }
 
 // The undos done.
@@ -61,7 +61,7 @@ pub extern "C" fn mizzencord_undos(p: &Panel) -> u32
     requires { ⌜ Inv (memory (now p)) ⌝ }
     ensures { λ n. ⌜ n ≡ undosShown (model (memory (now (p .entry)))) ⌝ }
 {
-    replica::showing::undos(p.counters)
+    replica::undos(p.counters)
 }
 
 // The executions done.
@@ -70,7 +70,7 @@ pub extern "C" fn mizzencord_executions(p: &Panel) -> u32
     requires { ⌜ Inv (memory (now p)) ⌝ }
     ensures { λ n. ⌜ n ≡ executionsShown (model (memory (now (p .entry)))) ⌝ }
 {
-    replica::showing::executions(p.counters)
+    replica::executions(p.counters)
 }
 
 // The request at a place of the standing order, places counted from 1, or refusal 9 with a request of zeros.
@@ -79,7 +79,7 @@ pub extern "C" fn mizzencord_at_place(p: &Panel, place: usize) -> PlacedRequest
     requires { ⌜ Inv (memory (now p)) ⌝ }
     ensures { λ r. ⌜ PlaceShown (memory (now (p .entry))) place r ⌝ }
 {
-    replica::showing::at_place(
+    replica::at_place(
         p.core,
         &p.clocks,
         &p.operations,

@@ -4,7 +4,6 @@ use native.Mathlib.Omega.{arith}
 use native.Mathlib.Nat.{div-add-mod'}
 use mathlib.Core.Path.{_≡_, refl, sym, ap, _∙_}
 use mathlib.Core.Bool.{true, false, not}
-use lib.Dec.{ltb, leb, eqb}
 use borrow.Author.Tests.{ltb-true, leb-true, lt-ltb, le-leb, eqb-true, eq-eqb, not-false}
 use Rattle.numbers.specs.declared.Number.{Number}
 use Rattle.numbers.specs.Numbers.{sameNumber, mostPanels, mostEvents, badNumber, GoodNumber, slotOf, numberOf}

@@ -10,3 +10,9 @@ pub mod common;
 pub mod insertion;
 pub mod later;
 pub mod order;
+
+pub use common::common_start;
+pub use insertion::insert_at;
+pub use insertion::place;
+pub use later::without_later;
+pub use order::comes_before;

@@ -22,7 +22,14 @@ use numbers::Number;
 use numbers::PanelNo;
 use request::Request;
 use request::refusal;
-use store::members;
+pub use showing::at_place;
+pub use showing::commits;
+pub use showing::committed;
+pub use showing::executions;
+pub use showing::owed;
+pub use showing::register;
+pub use showing::requests;
+pub use showing::undos;
 ghost use mathlib.Core.Path.{_≡_};
 ghost use Prim.Native.Nat.{min};
 ghost use Rattle.numbers.specs.Numbers.{noNumber};
@@ -196,6 +203,6 @@ pub fn end_waiting(awaiting: &mut [u64; 8], n: Number, mark: u8)
     ensures { λ _. ⌜ setOf (now (awaiting .exit)) ≡ awaitingAfter (setOf (now (awaiting .entry))) n mark ⌝ }
 {
     if (mark == WEAK) | (mark == STABLE) {
-        members::leave(awaiting, n);
+        store::leave(awaiting, n);
     }
 }

@@ -11,7 +11,6 @@ use lib.Count.{trailingZeros}
 use lib.Dec.{eqb}
 use borrow.Author.Tests.{eq-eqb, ne-eqb, eqb-true}
 use native.Mathlib.Omega.{arith}
-use Rattle.numbers.specs.declared.Number.{Number}
 use Rattle.numbers.specs.Numbers.{numbered, noNumber, mostEvents}
 use Rattle.sets.specs.Sets.{sameWords, allZero, lackedWords, lowestFrom}
 use Rattle.lists.proofs.BoolLaws.{true-not-false, both-true, both}

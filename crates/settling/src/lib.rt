@@ -7,10 +7,6 @@ use replica::CallResult;
 use replica::Core;
 use request::refusal;
 use sets::Context;
-use slots::common;
-use slots::settlement;
-use store::members;
-use store::requests;
 ghost use mathlib.Core.Path.{_≡_};
 ghost use Rattle.sets.specs.Sets.{setOf};
 ghost use Rattle.request.specs.Refusal as refusedBy;
@@ -42,8 +38,8 @@ pub fn commit<'a>(
         return CallResult { core, answer };
     }
     let slot = numbers::slot_of(n);
-    let asked = requests::asked_at(operations, slot as usize);
-    let context = requests::context_at(contexts, slot as usize);
+    let asked = store::asked_at(operations, slot as usize);
+    let context = store::context_at(contexts, slot as usize);
     let knows = *known;
     let answer = held_answer(asked.strong, context, Context { words: knows }, n);
     if answer.refusal != refusal::ACCEPTED {
@@ -52,18 +48,18 @@ pub fn commit<'a>(
     let from = core.committed;
     let to = core.ordered;
     let words = context.words;
-    let settled = settlement::settle_order(order, from, to, &words, slot);
+    let settled = slots::settle_order(order, from, to, &words, slot);
     let committed = settled.committed;
     // What is executed agrees with the order up to where the settlement changes it, and behind the last slot that it moves.
     let same = replica::lower(core.executed, from);
     let last = replica::lower(core.executed, settled.end);
-    let start = common::common_start(stack, last, order, to, same);
+    let start = slots::common_start(stack, last, order, to, same);
     let executed = agreed(core.executed, last, start);
     // The request is the last committed: it stays executed where the mark lies behind it, and its response was kept at its place.
     let response = responses[committed - 1];
-    let awaited = members::member(awaiting, n);
+    let awaited = store::member(awaiting, n);
     let due = awaited & (committed <= executed);
-    members::join(known, n);
+    store::join(known, n);
     let answer = settled_answer(due, response);
     replica::end_waiting(awaiting, n, answer.mark);
     let mut after = core;
@@ -83,7 +79,7 @@ fn number_refusal(panels: u8, held: &[u64; 8], n: Number) -> u8
     if numbers::bad(panels, n) {
         return refusal::BAD_NUMBER;
     }
-    if !members::member(held, n) {
+    if !store::member(held, n) {
         return refusal::NOT_HERE;
     }
     refusal::ACCEPTED

@@ -28,13 +28,12 @@ use Rattle.due.specs.Due.{RunDue}
 use Rattle.replica.specs.Shown.{registersShown, committedShown}
 use Rattle.wire.specs.declared.Message.{Message}
 use Rattle.wire.specs.declared.Reading.{Reading}
-use Rattle.wire.specs.declared.Answer.{Answer}
-use Rattle.wire.specs.declared.Answer.the-variants.{Message as aMessage, End, Refused}
+use Rattle.wire.specs.declared.ReadAnswer.the-variants.{Message as aMessage, End, Refused}
 use Rattle.wire.specs.declared.Subject.{Subject}
 use Rattle.wire.specs.declared.Subject.the-variants.{Request as aRequest, Settlement as aSettlement}
 use Rattle.wire.specs.Layout.{kindNumber, leastMessage}
 use Rattle.wire.specs.Message.{BusMessage, kindOf, said}
-use Rattle.wire.specs.Reader.{Outcome, message, end, refused, answered, readAt, refusalOf}
+use Rattle.wire.specs.Reader.{message, answered, readAt}
 use Rattle.sheet.specs.declared.Heard.{Heard}
 use Rattle.sheet.specs.declared.Ended.{Ended}
 use Rattle.wire.proofs.HeldLaws.{said-settlement, said-request}

@@ -11,8 +11,8 @@ use report::sizes::MOST_MESSAGE_BYTES;
 use report::sizes::MOST_REGISTERS_BYTES;
 use report::sizes::MOST_TOTALS_BYTES;
 use request::refusal;
-use wire::Answer;
 use wire::Message;
+use wire::ReadAnswer;
 use wire::Reading;
 use wire::layout::LEAST_MESSAGE;
 ghost use mathlib.Core.Path.{_≡_};
@@ -63,9 +63,9 @@ fn bytes_passed(r: Reading, left: usize) -> usize
 {
     let answer = r.answer;
     match answer {
-        Answer::Message => r.taken,
-        Answer::End => left,
-        Answer::Refused(_) => left,
+        ReadAnswer::Message => r.taken,
+        ReadAnswer::End => left,
+        ReadAnswer::Refused(_) => left,
     }
 }
 
@@ -159,7 +159,7 @@ fn hear(
 {
     let answer = r.answer;
     match answer {
-        Answer::Message => take_in(
+        ReadAnswer::Message => take_in(
             core,
             counters,
             held,
@@ -175,13 +175,13 @@ fn hear(
             responses,
             r.message,
         ),
-        Answer::End => Heard {
+        ReadAnswer::End => Heard {
             core,
             counters,
             refusal: refusal::ACCEPTED,
             undone: 0,
         },
-        Answer::Refused(refusal) => Heard {
+        ReadAnswer::Refused(refusal) => Heard {
             core,
             counters,
             refusal,
@@ -203,7 +203,7 @@ fn put_message_line(
     requires { ⌜ place ≤ mostInput ⌝ }
     ensures { λ r. ⌜ MessageLinePut place (said m) refusal undone (now (out .entry)) at (now (out .exit)) r ⌝ }
 {
-    let kind = wire::layout::kind_number(wire::held::kind_of(m));
+    let kind = wire::kind_number(wire::kind_of(m));
     let x = m.request;
     let number = x.number;
     let panel = number.panel.0;
@@ -228,9 +228,9 @@ fn put_line(out: &mut [u8], at: usize, place: u64, r: Reading, refusal: u8, undo
 {
     let answer = r.answer;
     match answer {
-        Answer::Message => put_message_line(out, at, place, r.message, refusal, undone),
-        Answer::End => at,
-        Answer::Refused(unread) => report::put_unread(out, at, place, unread as u64),
+        ReadAnswer::Message => put_message_line(out, at, place, r.message, refusal, undone),
+        ReadAnswer::End => at,
+        ReadAnswer::Refused(unread) => report::put_unread(out, at, place, unread as u64),
     }
 }
 
@@ -272,7 +272,7 @@ fn put_messages(
     let mut behind = from;
     let mut place: u64 = 1;
     while at < input.len() {
-        let r = wire::reader::read(input, at);
+        let r = wire::read(input, at);
         let h = hear(
             after,
             counted,
@@ -315,10 +315,10 @@ fn put_closing(
     requires { ⌜ at + mostTotalsBytes + mostRegistersBytes ≤ length (now out) ⌝ }
     ensures { λ r. ⌜ ClosingPut core counters (now (registers .entry)) (now (out .entry)) at (now (out .exit)) r ⌝ }
 {
-    let settled = replica::showing::committed(core);
-    let unsettled = replica::showing::requests(core) - settled;
-    let undone = replica::showing::undos(counters);
-    let carried = replica::showing::executions(counters);
+    let settled = replica::committed(core);
+    let unsettled = replica::requests(core) - settled;
+    let undone = replica::undos(counters);
+    let carried = replica::executions(counters);
     let registers_at = report::put_totals(
         out,
         at,

@@ -10,8 +10,6 @@ use creek::mark::WEAK;
 use numbers::Number;
 use replica::Core;
 use request::refusal;
-use store::members;
-use store::requests;
 ghost use mathlib.Core.Path.{_≡_};
 ghost use Prim.Native.Nat.{_<_};
 ghost use Rattle.slots.specs.Slots.{mostSlots};
@@ -79,7 +77,7 @@ pub fn take_off<'a>(
 {
     let slot = stack[top];
     let word = saved[top];
-    let asked = requests::asked_at(operations, slot as usize);
+    let asked = store::asked_at(operations, slot as usize);
     let operation = asked.operation;
     registers::rollback(registers, operation, registers::saved_in(word));
     slot
@@ -119,7 +117,7 @@ pub fn execute<'a>(
         };
     }
     let slot = order[at];
-    let asked = requests::asked_at(operations, slot as usize);
+    let asked = store::asked_at(operations, slot as usize);
     let operation = asked.operation;
     let before = registers::save(registers, operation);
     let word = registers::saved_word(before);
@@ -169,7 +167,7 @@ pub fn put_on(
     saved[at] = word;
     responses[at] = response;
     let number = numbers::number_of(slot);
-    let awaited = members::member(awaiting, number);
+    let awaited = store::member(awaiting, number);
     let mark = mark_of(awaited, strong, at < committed);
     replica::end_waiting(awaiting, number, mark);
     DueReply {

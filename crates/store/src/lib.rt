@@ -6,3 +6,11 @@
 // Each contract cites a definition of `specs/`, or of the crate `sets`; the laws for a caller are in `proofs/`.
 pub mod members;
 pub mod requests;
+
+pub use members::join;
+pub use members::leave;
+pub use members::member;
+pub use requests::asked_at;
+pub use requests::context_at;
+pub use requests::put_request;
+pub use requests::request_at;

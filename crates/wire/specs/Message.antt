@@ -5,7 +5,6 @@ use mathlib.Core.Bool.{Bool, true, false, not, _&&_, cond}
 use mathlib.Core.List.{List, [], _∷_, _++_}
 use lib.ListN.{length, drop}
 use Rattle.numbers.specs.declared.Number.{Number}
-use Rattle.sets.specs.declared.Context.{Context}
 use Rattle.request.specs.declared.Request.{Request}
 use Rattle.request.specs.Request.{bareRequest, noRequest}
 use Rattle.sets.specs.Sets.{emptySet, setOf, isEmpty, Words}

@@ -8,15 +8,15 @@ use lib.ListN.{getD, length}
 use lib.Dec.{ltb, leb, eqb}
 use Rattle.lists.specs.Lists.{somePasses}
 use Rattle.request.specs.Refusal as refusal
-use Rattle.wire.specs.declared.Answer.{Answer}
-use Rattle.wire.specs.declared.Answer.the-variants.{Message as aMessage, End, Refused}
+use Rattle.wire.specs.declared.ReadAnswer.{ReadAnswer}
+use Rattle.wire.specs.declared.ReadAnswer.the-variants.{Message as aMessage, End, Refused}
 use Rattle.wire.specs.declared.Reading.{Reading}
 use Rattle.wire.specs.declared.Kind.{Kind}
 use Rattle.wire.specs.Layout.{layout, kindWith, widthsWith, leastSize, mostSize, headWidths, headSize, decode, lengthField, kindField}
 use Rattle.wire.specs.Message.{BusMessage, spareByte, messageFrom, held, noMessage}
 
 -- document 01's number for each answer: a refusal's own, and 0 for the others
-abbrev pub refusalOf : Answer → ℕ
+abbrev pub refusalOf : ReadAnswer → ℕ
 refusalOf aMessage = refusal.accepted
 refusalOf End = refusal.accepted
 refusalOf (Refused w) = w
@@ -28,7 +28,7 @@ pub data Outcome : Type 0 where
   refused : ℕ → Outcome
 
 -- an answer that takes nothing, with zeros elsewhere
-abbrev pub untaken : Answer → Reading
+abbrev pub untaken : ReadAnswer → Reading
 untaken a = record { answer = a; message = noMessage; taken = 0 }
 
 -- the answer for each outcome

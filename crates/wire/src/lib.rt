@@ -10,6 +10,14 @@ pub mod layout;
 pub mod reader;
 pub mod writer;
 
+pub use held::kind_of;
+pub use held::of_request;
+pub use held::of_settlement;
+pub use layout::kind_number;
+pub use reader::read;
+pub use reader::refusal_of;
+pub use writer::write;
+
 // The kinds of messages; `kindNumber` of `specs/` gives their numbers.
 pub enum Kind {
     Weak,
@@ -30,7 +38,7 @@ pub struct Message {
 }
 
 // What stands at a place: a message, the end of the bytes, or what is refused by this number.
-pub enum Answer {
+pub enum ReadAnswer {
     Message,
     End,
     Refused(u8),
@@ -38,7 +46,7 @@ pub enum Answer {
 
 // An answer with the message and the bytes taken, zeros where there is no message.
 pub struct Reading {
-    pub answer: Answer,
+    pub answer: ReadAnswer,
     pub message: Message,
     pub taken: usize,
 }

@@ -1,7 +1,7 @@
 // The reader: one message from a lent run of bytes and a place in it. It judges layout only.
-use super::Answer;
 use super::Kind;
 use super::Message;
+use super::ReadAnswer;
 use super::Reading;
 use super::held;
 use super::layout;
@@ -23,10 +23,10 @@ pub fn read(s: &[u8], at: usize) -> Reading
 {
     let len = s.len();
     if len <= at {
-        return untaken(Answer::End);
+        return untaken(ReadAnswer::End);
     }
     if len - at < places::HEAD_SIZE {
-        return untaken(Answer::Refused(refusal::CUT_SHORT));
+        return untaken(ReadAnswer::Refused(refusal::CUT_SHORT));
     }
     let kind = integers::integer_at(s, at + places::KIND_AT, places::KIND_WIDTH);
     if kind == layout::WEAK as u64 {
@@ -38,17 +38,17 @@ pub fn read(s: &[u8], at: usize) -> Reading
     if kind == layout::SETTLEMENT as u64 {
         return read_as(s, at, Kind::Settlement);
     }
-    untaken(Answer::Refused(refusal::UNKNOWN_KIND))
+    untaken(ReadAnswer::Refused(refusal::UNKNOWN_KIND))
 }
 
 // The refusal number of an answer, 0 where it is none.
-pub fn refusal_of(answer: Answer) -> u8
+pub fn refusal_of(answer: ReadAnswer) -> u8
     ensures { λ r. ⌜ r ≡ refusalOf answer ⌝ }
 {
     match answer {
-        Answer::Message => refusal::ACCEPTED,
-        Answer::End => refusal::ACCEPTED,
-        Answer::Refused(word) => word,
+        ReadAnswer::Message => refusal::ACCEPTED,
+        ReadAnswer::End => refusal::ACCEPTED,
+        ReadAnswer::Refused(refusal) => refusal,
     }
 }
 
@@ -58,13 +58,13 @@ fn read_as(s: &[u8], at: usize, kind: Kind) -> Reading
     ensures { λ r. ⌜ r ≡ answered (readAs kind (now (s .entry)) at) ⌝ }
 {
     let length = integers::integer_at(s, at + places::LENGTH_AT, places::LENGTH_WIDTH) as usize;
-    let word = refusal_as(s, at, kind, length);
-    if word != refusal::ACCEPTED {
-        return untaken(Answer::Refused(word));
+    let refusal = refusal_as(s, at, kind, length);
+    if refusal != refusal::ACCEPTED {
+        return untaken(ReadAnswer::Refused(refusal));
     }
     let message = message_at(s, at, kind);
     Reading {
-        answer: Answer::Message,
+        answer: ReadAnswer::Message,
         message: message,
         taken: length,
     }
@@ -127,7 +127,7 @@ fn message_at(s: &[u8], at: usize, kind: Kind) -> Message
 }
 
 // An answer that takes nothing.
-fn untaken(answer: Answer) -> Reading
+fn untaken(answer: ReadAnswer) -> Reading
     ensures { λ r. ⌜ r ≡ untakenBy answer ⌝ }
 {
     Reading {

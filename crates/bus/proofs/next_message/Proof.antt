@@ -48,7 +48,7 @@ use denote.Triple.Entry.{Vals, onEntry}
 use denote.Triple.Spec.{Meets, tripleOf}
 use denote.Triple.Table.{entered, cited}
 use denote.Triple.Walked.{says, Stays, stay-ref, walkOf, goes-ref, Walks, ends-at, walked, walk-meets}
-use Rattle.bus.specs.Place.{nextMessage, advanced}
+use Rattle.bus.specs.Place.{nextMessage}
 use Rattle.wire.specs.declared.Reading.{Reading}
 use Rattle.bus.proofs.PlaceLaws.{place-fits}
 use Rattle.wire.proofs.Reading as S

@@ -1,9 +1,5 @@
 -- `receive` meets its contract.
-use mathlib.Core.Path.{sym, subst}
 use borrow.Author.Needs.{needs}
-use Rattle.request.specs.Refusal.{accepted}
-use Rattle.intake.specs.declared.ReceiveResult.{ReceiveResult}
-use Rattle.intake.specs.Intake.{ReceiveKept}
 use Rattle.intake.proofs.IntakeLaws.{receive-message, receive-end, receive-refused}
 use Rattle.intake.proofs.receive.Statement.{statement}
 use Rattle.intake.proofs.receive.Tie as tie

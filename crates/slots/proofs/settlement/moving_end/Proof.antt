@@ -1,5 +1,5 @@
 -- `settlement::moving_end` meets its contract. The invariant: none from the place on moves, so the settled slot stands before it.
-use Prim.Native.Nat.{ℕ, _-_, _≤_, _<_}
+use Prim.Native.Nat.{_-_, _≤_, _<_}
 use native.Mathlib.Omega.{arith}
 use borrow.Author.Needs.{needs}
 use mathlib.Core.Path.{_≡_}

@@ -1,6 +1,6 @@
 -- `held::kind_of` meets its contract.
 use mathlib.Core.Path.{sym, ap, _∙_}
-use Rattle.wire.specs.Message.{kindOf, said}
+use Rattle.wire.specs.Message.{kindOf}
 use borrow.Author.Needs.{needs}
 use Rattle.wire.proofs.HeldLaws.{said-request, said-settlement}
 use Rattle.wire.proofs.held.kind_of.Statement.{statement}

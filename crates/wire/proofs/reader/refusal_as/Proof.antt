@@ -1,6 +1,6 @@
 -- `reader::refusal_as` meets its contract, refusal by refusal.
 use Prim.Native.Nat.{_-_, _≤_}
-use mathlib.Core.Path.{_≡_, sym, ap, _∙_}
+use mathlib.Core.Path.{sym, _∙_}
 use native.Mathlib.Omega.{arith}
 use lib.ListN.{length}
 use Rattle.wire.specs.Layout.{leastSize, mostSize}

@@ -4,7 +4,7 @@ use mathlib.Core.Path.{_≡_, ap}
 use native.Mathlib.Omega.{arith}
 use lib.ListN.{length}
 use Rattle.wire.specs.declared.Kind.{Kind}
-use Rattle.wire.specs.declared.Kind.the-variants.{Weak, Strong, Settlement}
+use Rattle.wire.specs.declared.Kind.the-variants.{Weak, Strong}
 use Rattle.wire.specs.Layout.{leastSize, widthsWith, layout}
 use Rattle.wire.specs.Message.{said}
 use Rattle.wire.proofs.KindLaws.{kind-laws}
