@@ -39,7 +39,7 @@ module _ {panels own : ℕ} (p : PanelHistory panels own) where
   -- all due steps leave one replay of the standing order in the registers
   registers-replayed : (r : DueOutcome) → RunDue (p .last) r
       → r .state .registers ≡ replay (operations (order (model (p .last) .book .plan)))
-  registers-replayed r ran = panel-demand-3 (p .begun) (p .led) .settles-at-once r ran .steps .replayed refl
+  registers-replayed r ran = panel-demand-3 (p .begun) (p .led) .all-due-done r ran .steps .replayed refl
 
 -- ---- two panels
 

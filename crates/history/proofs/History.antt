@@ -190,8 +190,8 @@ module _ {panels own : ℕ} {opened : Opened} {calls : List Call} {answers : Lis
     undos-shown = rw panel-replica (demand .undos-shown);
     executions-shown = rw panel-replica (demand .executions-shown);
     owed-shown = ap (λ (b : Book). owed (b .execution)) book;
-    settles = rw (← book) due-steps;
-    settles-at-once = due-at-once;
+    due-steps-done = rw (← book) due-steps;
+    all-due-done = due-at-once;
     clock-order = rw (← run-book (fresh panels own) calls) (demand .clock-order);
     undos-few = rw panel-replica (demand .undos-few);
     executions-few = rw panel-replica (demand .executions-few);

@@ -147,7 +147,7 @@ module _ (panel : Panel) where
     ran = last-kept (panel .fresh panels own .state) calls (k .kept) (inv panels own calls (k .fresh) kept-before)
 
     all-done : AllDueDone start (panel .run-due start)
-    all-done = demand panels own calls (k .fresh) kept-before .settles-at-once (panel .run-due start) ran
+    all-done = demand panels own calls (k .fresh) kept-before .all-due-done (panel .run-due start) ran
 
   -- ---- the five
 

@@ -114,10 +114,10 @@ module _ (panels own : ℕ) (calls : List Call) where
     -- what it reports owed is what the book owes
     pub owed-shown : owedShown (model q) ≡ owed (shiftBook .execution)
     -- if from there only the step that is due is called
-    pub settles : (k : ℕ) (more : List Answer) (last : State) → k ≤ owedShown (model q) → Leads q (dueCalls k shiftBook) more last
+    pub due-steps-done : (k : ℕ) (more : List Answer) (last : State) → k ≤ owedShown (model q) → Leads q (dueCalls k shiftBook) more last
         → DueStepsDone q k more last
     -- if from there all due steps are called at once
-    pub settles-at-once : (r : DueOutcome) → RunDue q r → AllDueDone q r
+    pub all-due-done : (r : DueOutcome) → RunDue q r → AllDueDone q r
     -- the unsettled list is in clock order
     pub clock-order : Ordered before (shiftBook .plan .tentative)
     -- neither step counter is ever above 262,656
