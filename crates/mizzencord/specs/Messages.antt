@@ -9,22 +9,22 @@ use Rattle.mizzencord.specs.declared.bytes.Message.{Message}
 use Rattle.mizzencord.specs.declared.bytes.MessageRead.{MessageRead}
 
 -- whether a message settles, by its subject
-abbrev pub settles : Subject → Bool
-settles Request = false
-settles Settlement = true
+abbrev pub settlesBy : Subject → Bool
+settlesBy Request = false
+settlesBy Settlement = true
 
 -- and its subject, by whether it settles
-abbrev pub subjectOf : Bool → Subject
-subjectOf false = Request
-subjectOf true = Settlement
+abbrev pub subjectBy : Bool → Subject
+subjectBy false = Request
+subjectBy true = Settlement
 
 -- a message as C holds it
 abbrev pub shownFor : Held → Message
-shownFor m = record { settles = settles (m .subject); request = m .request }
+shownFor m = record { settles = settlesBy (m .subject); request = m .request }
 
 -- the message that C holds
 abbrev pub heldFor : Message → Held
-heldFor m = record { subject = subjectOf (m .settles); request = m .request }
+heldFor m = record { subject = subjectBy (m .settles); request = m .request }
 
 -- the refusal's number, 0 for a message and for the end; the bytes taken; and the message
 abbrev pub readFrom : Reading → MessageRead

@@ -10,7 +10,7 @@ ghost use Rattle.sheet.specs.Putting.{Printed};
 ghost use Rattle.mizzencord.specs.Lists.{Answered};
 ghost use Rattle.wire.specs.Reader.{answered, readAt};
 ghost use Rattle.wire.specs.Writer.{Wrote};
-ghost use Rattle.mizzencord.specs.Messages.{shownFor, heldFor, readFrom};
+ghost use Rattle.mizzencord.specs.Messages.{settlesBy, subjectBy, heldFor, readFrom};
 
 // What a list of calls led to: refusal 20 without room for the answers, else fresh's; and how many calls were run.
 #[repr(C)]
@@ -95,7 +95,11 @@ pub extern "C" fn mizzencord_read(bytes: &[u8], at: usize) -> MessageRead
     let reading = wire::read(bytes, at);
     let answer = reading.answer;
     let refusal = wire::refusal_of(answer);
-    let message = shown(reading.message);
+    let held = reading.message;
+    let subject = held.subject;
+    let settles = settles(subject);
+    let request = held.request;
+    let message = Message { settles, request };
     MessageRead {
         refusal,
         taken: reading.taken,
@@ -108,41 +112,28 @@ pub extern "C" fn mizzencord_read(bytes: &[u8], at: usize) -> MessageRead
 pub extern "C" fn mizzencord_write(message: Message, out: &mut [u8]) -> Written
     ensures { λ r. ⌜ Wrote (heldFor message) (now (out .entry)) (now (out .exit)) r ⌝ }
 {
-    let held = held_for(message);
+    let subject = subject_of(message.settles);
+    let request = message.request;
+    let held = wire::Message { subject, request };
     wire::write(out, held)
 }
 
-// A message as C holds it.
-fn shown(m: wire::Message) -> Message
-    ensures { λ r. ⌜ r ≡ shownFor m ⌝ }
+// Whether a message about that subject settles.
+fn settles(subject: Subject) -> bool
+    ensures { λ b. ⌜ b ≡ settlesBy subject ⌝ }
 {
-    let subject = m.subject;
-    let request = m.request;
     match subject {
-        Subject::Request => Message {
-            settles: false,
-            request,
-        },
-        Subject::Settlement => Message {
-            settles: true,
-            request,
-        },
+        Subject::Request => false,
+        Subject::Settlement => true,
     }
 }
 
-// The message that C holds.
-fn held_for(m: Message) -> wire::Message
-    ensures { λ r. ⌜ r ≡ heldFor m ⌝ }
+// The subject of a message that settles, or does not.
+fn subject_of(settles: bool) -> Subject
+    ensures { λ x. ⌜ x ≡ subjectBy settles ⌝ }
 {
-    let request = m.request;
-    if m.settles {
-        return wire::Message {
-            subject: Subject::Settlement,
-            request,
-        };
+    if settles {
+        return Subject::Settlement;
     }
-    wire::Message {
-        subject: Subject::Request,
-        request,
-    }
+    Subject::Request
 }

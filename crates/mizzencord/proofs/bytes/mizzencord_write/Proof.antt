@@ -3,8 +3,8 @@ use borrow.Author.Needs.{needs}
 use Rattle.mizzencord.proofs.bytes.mizzencord_write.Statement.{statement}
 use Rattle.mizzencord.proofs.bytes.mizzencord_write.Tie as tie
 
-held-for-requires : tie.Need-held-for-requires
-held-for-requires c κs = search needs
+subject-of-requires : tie.Need-subject-of-requires
+subject-of-requires c κs = search needs
 
 write-requires : tie.Need-write-requires
 write-requires c κs = search needs
@@ -15,7 +15,7 @@ same-length c = search needs
 returns : tie.Need-returns
 returns c =
     let wrote = c .before .before in
-    rw (wrote .before .before .held-for .ensures) at (wrote .write .ensures)
+    rw (wrote .before .before .before .subject-of .ensures) at (wrote .write .ensures)
 
 pub mizzencord-write-spec : {M : Type 1} → statement M
-mizzencord-write-spec = tie.close (tie.spec held-for-requires write-requires same-length returns)
+mizzencord-write-spec = tie.close (tie.spec subject-of-requires write-requires same-length returns)
