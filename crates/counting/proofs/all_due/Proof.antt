@@ -6,12 +6,17 @@ use borrow.Author.Needs.{needs}
 use Rattle.counting.proofs.all_due.Statement.{statement}
 use Rattle.counting.proofs.all_due.Tie as tie
 
+-- ---- earlier places of the function, from later ones
+
+abbrev start-from-after-run-due-arg5 : tie.After-run-due-arg5 → tie.Start
+start-from-after-run-due-arg5 c = c .before .before .before .before .before
+
 abbrev start : tie.After-run-due → tie.Start
 start c = c .before .before .before .before .before .before
 
 run-due-requires : tie.Need-run-due-requires
 run-due-requires c κs =
-    let a = c .before .before .before .before .before in
+    let a = start-from-after-run-due-arg5 c in
     record {
       panel =
           executeParts (a .pre .panel) (a .args .counters) (a .args .core) (a .args .awaiting .now) (a .args .operations .now)

@@ -4,9 +4,17 @@ use Rattle.counting.proofs.CountingLaws.{execution-fits, execution-coun
 use Rattle.counting.proofs.execute_counted.Statement.{statement}
 use Rattle.counting.proofs.execute_counted.Tie as tie
 
+-- ---- earlier places of the function, from later ones
+
+abbrev start-from-after-execute-arg5 : tie.After-execute-arg5 → tie.Start
+start-from-after-execute-arg5 c = c .before .before .before .before .before
+
+abbrev start-from-after-execute : tie.After-execute → tie.Start
+start-from-after-execute c = c .before .before .before .before .before .before
+
 execute-requires : tie.Need-execute-requires
 execute-requires c κs =
-    let a = c .before .before .before .before .before in
+    let a = start-from-after-execute-arg5 c in
     record {
       panel =
           executeParts (a .pre .panel) (a .args .counters) (a .args .core) (a .args .awaiting .now) (a .args .operations .now)
@@ -15,7 +23,7 @@ execute-requires c κs =
     }
 
 executions-counted-requires : tie.Need-executions-counted-requires
-executions-counted-requires c κs = execution-fits (c .execute .ensures) (c .before .before .before .before .before .before .pre)
+executions-counted-requires c κs = execution-fits (c .execute .ensures) (start-from-after-execute c .pre)
 
 returns : tie.Need-returns
 returns c =

@@ -6,6 +6,14 @@ use borrow.Author.Needs.{needs}
 use Rattle.driver.proofs.run.Statement.{statement}
 use Rattle.driver.proofs.run.Tie as tie
 
+-- ---- earlier places of the function, from later ones
+
+abbrev else-1-from-after-run-all-arg12 : tie.After-run-all-arg12 → tie.Else1
+else-1-from-after-run-all-arg12 c = c .before .before .before .before .before .before .before .before .before .before .before .before
+
+abbrev else-1-from-after-run-all : tie.After-run-all → tie.Else1
+else-1-from-after-run-all c = c .before .before .before .before .before .before .before .before .before .before .before .before .before
+
 -- what the bytes ask for
 abbrev own : tie.After-fresh → tie.After-byte-at2
 own c = c .before .before .before .before .before .before .before .before .before .before .before .before
@@ -32,7 +40,7 @@ returns c =
 
 run-all-requires : tie.Need-run-all-requires
 run-all-requires c κs =
-    let roomy = c .before .before .before .before .before .before .before .before .before .before .before .before in
+    let roomy = else-1-from-after-run-all-arg12 c in
     let counted = roomy .before .before .before in (
       counted .before .fresh .ensures .opened .invariant,
       (counted .call-count .ensures, answers-room _ _ _ (omega (arith, counted .call-count .ensures, roomy .if1 .left))),
@@ -44,7 +52,7 @@ same-length c = search needs
 returns-2 : tie.Need-returns-2
 returns-2 c =
     let all = c .before .before .before .before in
-    let roomy = all .before .before .before .before .before .before .before .before .before .before .before .before .before in
+    let roomy = else-1-from-after-run-all all in
     let counted = roomy .before .before .before in
     let opened = counted .before in
     let asked = own opened in

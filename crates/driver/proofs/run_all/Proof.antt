@@ -17,6 +17,14 @@ abbrev μ-loop : tie.MeasureT-loop
 μ-loop held₀ known₀ awaiting₀ clocks₀ operations₀ contexts₀ order₀ stack₀ registers₀ saved₀ responses₀ s count out₀ panel₀ counted₀ at₀ behind₀ i₀ held known awaiting clocks operations contexts order stack registers saved responses out panel counted at behind i =
     count - i
 
+-- ---- earlier places of the function, from later ones
+
+abbrev in-loop : tie.After-call-arg11 Inv-loop μ-loop → tie.In-loop Inv-loop μ-loop
+in-loop c = c .before .before .before .before .before .before .before .before .before .before .before
+
+abbrev after-call : tie.After-slice-known2 Inv-loop μ-loop → tie.After-call Inv-loop μ-loop
+after-call c = c .before .before .before .before .before .before
+
 -- the bytes are as many as a slice may have
 short : (a : tie.Start Inv-loop μ-loop) → length (a .args .s .now) < 2 ^ 64
 short a = omega arith
@@ -37,7 +45,7 @@ loop-holds c =
 
 call-requires : tie.Need-call-requires Inv-loop μ-loop
 call-requires c κs =
-    let here = c .before .before .before .before .before .before .before .before .before .before .before in
+    let here = in-loop c in
     (here .before .loop .inv .invariant, omega (arith, within here))
 
 put-answer-requires : tie.Need-put-answer-requires Inv-loop μ-loop
@@ -49,16 +57,16 @@ put-answer-requires c κs =
 
 add-at : tie.Need-add-at Inv-loop μ-loop
 add-at c =
-    let here = turn (c .before .before .before .before .before .before) in
+    let here = turn (after-call c) in
     omega (arith, within here, short (here .before .before .before .before))
 
 add-i : tie.Need-add-i Inv-loop μ-loop
 add-i c =
-    let here = turn (c .before .before .before .before .before .before) in
+    let here = turn (after-call c) in
     omega (arith, within here, here .before .loop .inv .place, short (here .before .before .before .before))
 
 loop-less : tie.Need-loop-less Inv-loop μ-loop
-loop-less c = omega (arith, turn (c .before .before .before .before .before .before) .loop-test .taken)
+loop-less c = omega (arith, turn (after-call c) .loop-test .taken)
 
 loop-again : tie.Need-loop-again Inv-loop μ-loop
 loop-again c =

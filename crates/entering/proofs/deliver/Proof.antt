@@ -14,6 +14,20 @@ use borrow.Author.Needs.{needs}
 use Rattle.entering.proofs.deliver.Statement.{statement}
 use Rattle.entering.proofs.deliver.Tie as tie
 
+-- ---- earlier places of the function, from later ones
+
+abbrev then-2 : tie.After-refused2 → tie.Then2
+then-2 c = c .before .before .before .before .before .before
+
+abbrev else-2-from-after-enter-arg6 : tie.After-enter-arg6 → tie.Else2
+else-2-from-after-enter-arg6 c = c .before .before .before .before .before .before
+
+abbrev else-2-from-after-struct-known : tie.After-struct-known → tie.Else2
+else-2-from-after-struct-known c = c .before .before .before .before .before .before .before .before
+
+abbrev else-2-from-after-enter : tie.After-enter → tie.Else2
+else-2-from-after-enter c = c .before .before .before .before .before .before .before
+
 -- ---- the places of the call
 
 abbrev start : tie.After-slot-of → tie.Start
@@ -79,7 +93,7 @@ refused-requires-2 c κs = search needs
 
 returns-2 : tie.Need-returns-2
 returns-2 c =
-    let held = c .before .before .before .before .before .before in
+    let held = then-2 c in
     let slot = slotted (held .before) in
     let a = start slot in
     record {
@@ -90,7 +104,7 @@ returns-2 c =
 
 enter-requires : tie.Need-enter-requires
 enter-requires c κs =
-    let else = c .before .before .before .before .before .before in
+    let else = else-2-from-after-enter-arg6 c in
     let slot = slotted (else .before) in
     let a = start slot in
     record {
@@ -102,7 +116,7 @@ enter-requires c κs =
 
 add-after : tie.Need-add-after
 add-after c =
-    let else = c .before .before .before .before .before .before .before .before in
+    let else = else-2-from-after-struct-known c in
     let a = start (slotted (else .before)) in
     omega (arith, enters else (a .pre .panel) (a .pre .invariant) .room)
 
@@ -112,7 +126,7 @@ done-requires c κs = search needs
 returns-3 : tie.Need-returns-3
 returns-3 c =
     let entered = c .before .before in
-    let else = entered .before .before .before .before .before .before .before in
+    let else = else-2-from-after-enter entered in
     let slot = slotted (else .before) in
     let a = start slot in
     record {

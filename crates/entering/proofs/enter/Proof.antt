@@ -6,6 +6,11 @@ use borrow.Author.Needs.{needs}
 use Rattle.entering.proofs.enter.Statement.{statement}
 use Rattle.entering.proofs.enter.Tie as tie
 
+-- ---- earlier places of the function, from later ones
+
+abbrev after-know : tie.After-lower → tie.After-know
+after-know c = c .before .before .before .before .before
+
 -- ---- the places of the call
 
 abbrev start : tie.After-place → tie.Start
@@ -55,10 +60,10 @@ add-common-start c = search needs
 common-start-requires : tie.Need-common-start-requires
 common-start-requires c κs =
     let least = c .before in
-    let at = placed (least .before .before .before .before .before) in
+    let at = placed (after-know least) in
     let a = start at in
     start-asks (lent a) (a .args .x) (a .pre .invariant) (a .pre .enters) _ _ (a .pre .its-slot) (at .place .ensures) _
-    (inserted (least .before .before .before .before .before) .insert-at .ensures) _ (least .lower .ensures)
+    (inserted (after-know least) .insert-at .ensures) _ (least .lower .ensures)
 
 returns : tie.Need-returns
 returns c =

@@ -13,6 +13,17 @@ use borrow.Author.Needs.{needs}
 use Rattle.entering.proofs.invoke.Statement.{statement}
 use Rattle.entering.proofs.invoke.Tie as tie
 
+-- ---- earlier places of the function, from later ones
+
+abbrev after-request-for-from-after-enter-arg6 : tie.After-enter-arg6 → tie.After-request-for
+after-request-for-from-after-enter-arg6 c = c .before .before .before .before .before .before
+
+abbrev after-request-for-from-after-struct-known2 : tie.After-struct-known2 → tie.After-request-for
+after-request-for-from-after-struct-known2 c = c .before .before .before .before .before .before .before .before .before .before .before
+
+abbrev after-request-for-from-after-enter : tie.After-enter → tie.After-request-for
+after-request-for-from-after-enter c = c .before .before .before .before .before .before .before
+
 -- ---- the places of the call
 
 -- where the reading is taken, from where the slot is known
@@ -82,7 +93,7 @@ request-for-requires c κs = search needs
 
 enter-requires : tie.Need-enter-requires
 enter-requires c κs =
-    let made = c .before .before .before .before .before .before in
+    let made = after-request-for-from-after-enter-arg6 c in
     let slot = slotted (made .before) in
     let a = start slot in
     record {
@@ -97,7 +108,7 @@ join-requires c κs = search needs
 
 add-after : tie.Need-add-after
 add-after c =
-    let made = c .before .before .before .before .before .before .before .before .before .before .before in
+    let made = after-request-for-from-after-struct-known2 c in
     let a = start (slotted (made .before)) in
     omega (arith, enters made (a .pre .panel) (a .pre .invariant) .room)
 
@@ -108,7 +119,7 @@ returns-2 : tie.Need-returns-2
 returns-2 c =
     let waits = c .before .before .before in
     let entered = waits .before .before in
-    let made = entered .before .before .before .before .before .before .before in
+    let made = after-request-for-from-after-enter entered in
     let asked = made .before in
     let slot = slotted asked in
     let else = slot .before .before .before .before in

@@ -10,6 +10,14 @@ use Rattle.effects.proofs.RegisterLaws.{executed-claim, executed-no-claim, exec
 use Rattle.executing.proofs.execute.Statement.{statement}
 use Rattle.executing.proofs.execute.Tie as tie
 
+-- ---- earlier places of the function, from later ones
+
+abbrev else-1-from-after-wrapping-add-u32 : tie.After-wrapping-add-u32 → tie.Else1
+else-1-from-after-wrapping-add-u32 c = c .before .before .before .before .before .before
+
+abbrev else-1-from-else-6 : tie.Else6 → tie.Else1
+else-1-from-else-6 c = c .before .before .before .before .before .before .before
+
 on : (c : tie.Else1) → offBoard (c .before .before .args .o) ≡ false
 on c = sym (c .before .off-board .ensures) ∙ c .if1 .left
 
@@ -51,7 +59,7 @@ mul-registers-2 : tie.Need-mul-registers-2
 mul-registers-2 c = search needs
 
 element-write-registers-2 : tie.Need-element-write-registers-2
-element-write-registers-2 c = omega (arith, on-board _ (on (c .before .before .before .before .before .before)))
+element-write-registers-2 c = omega (arith, on-board _ (on (else-1-from-after-wrapping-add-u32 c)))
 
 returns-4 : tie.Need-returns-4
 unfolding added
@@ -67,7 +75,7 @@ mul-registers-3 : tie.Need-mul-registers-3
 mul-registers-3 c = search needs
 
 element-write-registers-3 : tie.Need-element-write-registers-3
-element-write-registers-3 c = omega (arith, on-board _ (on (c .before .before .before .before .before .before .before)))
+element-write-registers-3 c = omega (arith, on-board _ (on (else-1-from-else-6 c)))
 
 returns-6 : tie.Need-returns-6
 returns-6 c =

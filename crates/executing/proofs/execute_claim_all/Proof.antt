@@ -5,6 +5,11 @@ use Rattle.effects.proofs.RegisterLaws.{executed-claim-all, executed-no-claim-a
 use Rattle.executing.proofs.execute_claim_all.Statement.{statement}
 use Rattle.executing.proofs.execute_claim_all.Tie as tie
 
+-- ---- earlier places of the function, from later ones
+
+abbrev start : tie.After-set-all → tie.Start
+start c = c .before .before .before .before .before
+
 lowest-held-requires : tie.Need-lowest-held-requires
 lowest-held-requires c κs = search needs
 
@@ -19,7 +24,7 @@ set-all-requires c κs = search needs
 
 returns-2 : tie.Need-returns-2
 returns-2 c =
-    let claim = c .before .before .before .before .before .pre in
+    let claim = start c .pre in
     let found = c .before .before .before .lowest-held .ensures in
     rw (c .set-all .ensures) (executed-claim-all _ _ (claim .on) (claim .code) (sym found ∙ c .before .before .if1 .left))
 

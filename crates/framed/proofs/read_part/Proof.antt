@@ -10,6 +10,11 @@ use borrow.Author.Needs.{needs}
 use Rattle.framed.proofs.read_part.Statement.{statement}
 use Rattle.framed.proofs.read_part.Tie as tie
 
+-- ---- earlier places of the function, from later ones
+
+abbrev after-next-length : tie.After-slice-known2 → tie.After-next-length
+after-next-length c = c .before .before .before .before .before
+
 counts-front : (n : ℕ) (xs ys : List ℕ) → n ≤ length xs → Counts n (xs ++ ys)
 counts-front n xs ys h =
     let few : n ≤ length (xs ++ ys) = omega (arith, length-append xs ys) in
@@ -36,7 +41,7 @@ same-length c = search needs
 returns-2 : tie.Need-returns-2
 returns-2 c =
     let r = c .before .before .read-full in
-    let s = c .before .before .before .before .before in
+    let s = after-next-length c in
     counts-front _ (r .last .1 .0) (drop (s .next-length .result) (s .before .before .args .part .now)) (r .ensures .0)
 
 pub read-part-spec : {M : Type 1} → statement M

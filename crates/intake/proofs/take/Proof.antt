@@ -6,6 +6,20 @@ use borrow.Author.Needs.{needs}
 use Rattle.intake.proofs.take.Statement.{statement}
 use Rattle.intake.proofs.take.Tie as tie
 
+-- ---- earlier places of the function, from later ones
+
+abbrev start-from-after-deliver-arg6 : tie.After-deliver-arg6 → tie.Start
+start-from-after-deliver-arg6 c = c .before .before .before .before .before .before .before .before .before
+
+abbrev start-from-after-commit-arg6 : tie.After-commit-arg6 → tie.Start
+start-from-after-commit-arg6 c = c .before .before .before .before .before .before .before .before .before
+
+abbrev after-enum-told : tie.After-deliver → tie.After-enum-told
+after-enum-told c = c .before .before .before .before .before .before .before
+
+abbrev after-enum-told2 : tie.After-commit → tie.After-enum-told2
+after-enum-told2 c = c .before .before .before .before .before .before .before
+
 -- a panel with the parts lent
 abbrev lent : tie.Start → State
 lent a =
@@ -17,7 +31,7 @@ enum-told c = search needs
 
 deliver-requires : tie.Need-deliver-requires
 deliver-requires c κs =
-    let a = c .before .before .before .before .before .before .before .before .before in
+    let a = start-from-after-deliver-arg6 c in
     record { panel = lent a; invariant = a .pre .invariant }
 
 enum-told-2 : tie.Need-enum-told-2
@@ -25,17 +39,17 @@ enum-told-2 c = search needs
 
 commit-requires : tie.Need-commit-requires
 commit-requires c κs =
-    let a = c .before .before .before .before .before .before .before .before .before in
+    let a = start-from-after-commit-arg6 c in
     record { panel = lent a; invariant = a .pre .invariant }
 
 returns : tie.Need-returns
 returns c =
-    let hears = c .before .before .before .before .before .before .before in
+    let hears = after-enum-told c in
     take-heard (hears .before .before .before .args .m) (hears .enum-told .given .1) (c .deliver .ensures)
 
 returns-2 : tie.Need-returns-2
 returns-2 c =
-    let settles = c .before .before .before .before .before .before .before in
+    let settles = after-enum-told2 c in
     take-settled (settles .before .before .before .args .m) (settles .enum-told2 .given .1) (c .commit .ensures)
 
 pub take-spec : {M : Type 1} → statement M

@@ -10,6 +10,11 @@ use Rattle.effects.proofs.RegisterLaws.{on-board}
 use Rattle.registers.proofs.rollback.Statement.{statement}
 use Rattle.registers.proofs.rollback.Tie as tie
 
+-- ---- earlier places of the function, from later ones
+
+abbrev then-2 : tie.After-set-all-arg → tie.Then2
+then-2 c = c .before .before .before .before .before
+
 on : (c : tie.Else1) → offBoard (c .before .before .args .o) ≡ false
 on c = sym (c .before .off-board .ensures) ∙ c .if1 .left
 
@@ -37,7 +42,7 @@ returns-2 c =
 
 set-all-requires : tie.Need-set-all-requires
 set-all-requires c κs =
-    let claim = c .before .before .before .before .before in
+    let claim = then-2 c in
     on (claim .before .before)
 
 returns-3 : tie.Need-returns-3

@@ -7,6 +7,11 @@ use Rattle.report.specs.Lines.{messageLine}
 use Rattle.report.proofs.put_message.Statement.{statement}
 use Rattle.report.proofs.put_message.Tie as tie
 
+-- ---- earlier places of the function, from later ones
+
+abbrev after-put-number : tie.After-end-line → tie.After-put-number
+after-put-number c = c .before .before .before .before .before
+
 put-number-requires : tie.Need-put-number-requires
 unfolding messageLine line
 put-number-requires c κs =
@@ -30,7 +35,7 @@ returns : tie.Need-returns
 unfolding messageLine line
 returns c =
     let w = c .before .before in
-    then (w .before .before .before .before .before .put-number .ensures) (w .end-line .ensures)
+    then (after-put-number w .put-number .ensures) (w .end-line .ensures)
 
 pub put-message-spec : {M : Type 1} → statement M
 put-message-spec =

@@ -16,6 +16,14 @@ Inv-loop out₀ at registers p₀ i₀ out p i =
 abbrev μ-loop : tie.MeasureT-loop
 μ-loop out₀ at registers p₀ i₀ out p i = length registers - i
 
+-- ---- earlier places of the function, from later ones
+
+abbrev start-from-after-shared-slice-known2 : tie.After-shared-slice-known2 Inv-loop μ-loop → tie.Start Inv-loop μ-loop
+start-from-after-shared-slice-known2 c = c .before .before .before .before .before .before
+
+abbrev start-from-after-put-register : tie.After-put-register Inv-loop μ-loop → tie.Start Inv-loop μ-loop
+start-from-after-put-register c = c .before .before .before .before .before .before .before
+
 loop-holds : tie.Need-loop-holds Inv-loop μ-loop
 unfolding registerLines
 loop-holds c = (omega arith, left-start _ _ _)
@@ -34,7 +42,7 @@ cast-put-register c =
 put-register-requires : tie.Need-put-register-requires Inv-loop μ-loop
 put-register-requires c κs =
     let l = c .before .before .before .loop in
-    let s = c .before .before .before .before .before .before in
+    let s = start-from-after-shared-slice-known2 c in
     left-room _ _ (s .pre) (rw (registers-on (s .args .registers .now) (l .i) (omega arith)) at (l .inv .1))
 
 add-i : tie.Need-add-i Inv-loop μ-loop
@@ -47,7 +55,7 @@ loop-again : tie.Need-loop-again Inv-loop μ-loop
 loop-again c =
     let w = c .before .before in
     let l = w .before .before .before .before .loop in
-    let values = w .before .before .before .before .before .before .before .args .registers .now in
+    let values = start-from-after-put-register w .args .registers .now in
     (omega arith, left-step _ (w .put-register .ensures) (rw (registers-on values (l .i) (omega arith)) at (l .inv .1)))
 
 same-length : tie.Need-same-length Inv-loop μ-loop

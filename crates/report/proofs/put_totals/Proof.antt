@@ -8,6 +8,20 @@ use Rattle.report.specs.Lines.{totalsLine}
 use Rattle.report.proofs.put_totals.Statement.{statement}
 use Rattle.report.proofs.put_totals.Tie as tie
 
+-- ---- earlier places of the function, from later ones
+
+abbrev after-put-labelled : tie.After-put-labelled2 → tie.After-put-labelled
+after-put-labelled c = c .before .before .before .before .before
+
+abbrev after-put-labelled3-from-after-put-line-arg3 : tie.After-put-line-arg3 → tie.After-put-labelled3
+after-put-labelled3-from-after-put-line-arg3 c = c .before .before .before .before .before
+
+abbrev after-put-labelled2 : tie.After-put-labelled3 → tie.After-put-labelled2
+after-put-labelled2 c = c .before .before .before .before .before
+
+abbrev after-put-labelled3-from-after-put-line : tie.After-put-line → tie.After-put-labelled3
+after-put-labelled3-from-after-put-line c = c .before .before .before .before .before .before
+
 -- what is left of the line once `settled`, `unsettled` and `undone` are put
 abbrev afterUndone : ℕ → List ℕ
 afterUndone carried = line (ascii " carried" ∷ numbers (carried ∷ []))
@@ -44,7 +58,7 @@ put-labelled-requires-3 : tie.Need-put-labelled-requires-3
 unfolding totalsLine line restOfLine ascii
 put-labelled-requires-3 c κs =
     let v = c .before .before .before .before in
-    let w = v .before .before .before .before .before in
+    let w = after-put-labelled v in
     let s = w .before .before .before .before in
     room-first _ (afterUndone (s .args .carried))
     (room-next (afterUnsettled (s .args .undone) (s .args .carried)) (v .put-labelled2 .ensures)
@@ -59,9 +73,9 @@ slice-aggregate-put-line-2 c = search needs
 put-line-requires : tie.Need-put-line-requires
 unfolding totalsLine line restOfLine ascii
 put-line-requires c κs =
-    let u = c .before .before .before .before .before in
-    let v = u .before .before .before .before .before in
-    let w = v .before .before .before .before .before in
+    let u = after-put-labelled3-from-after-put-line-arg3 c in
+    let v = after-put-labelled2 u in
+    let w = after-put-labelled v in
     let s = w .before .before .before .before in
     room-next _ (u .put-labelled3 .ensures)
     (room-next (afterUnsettled (s .args .undone) (s .args .carried)) (v .put-labelled2 .ensures)
@@ -74,9 +88,9 @@ returns : tie.Need-returns
 unfolding totalsLine line restOfLine ascii
 returns c =
     let l = c .before .before in
-    let u = l .before .before .before .before .before .before in
-    let v = u .before .before .before .before .before in
-    let w = v .before .before .before .before .before in
+    let u = after-put-labelled3-from-after-put-line l in
+    let v = after-put-labelled2 u in
+    let w = after-put-labelled v in
     then (w .put-labelled .ensures) (then (v .put-labelled2 .ensures) (then (u .put-labelled3 .ensures) (l .put-line .ensures)))
 
 pub put-totals-spec : {M : Type 1} → statement M

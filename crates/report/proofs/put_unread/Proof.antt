@@ -7,6 +7,14 @@ use Rattle.report.specs.Lines.{unreadLine}
 use Rattle.report.proofs.put_unread.Statement.{statement}
 use Rattle.report.proofs.put_unread.Tie as tie
 
+-- ---- earlier places of the function, from later ones
+
+abbrev after-put-number-from-after-put-line-arg3 : tie.After-put-line-arg3 → tie.After-put-number
+after-put-number-from-after-put-line-arg3 c = c .before .before .before .before .before
+
+abbrev after-put-number-from-after-put-line : tie.After-put-line → tie.After-put-number
+after-put-number-from-after-put-line c = c .before .before .before .before .before .before
+
 put-number-requires : tie.Need-put-number-requires
 unfolding unreadLine line restOfLine ascii
 put-number-requires c κs =
@@ -22,7 +30,7 @@ slice-aggregate-put-line-2 c = search needs
 put-line-requires : tie.Need-put-line-requires
 unfolding unreadLine line restOfLine ascii
 put-line-requires c κs =
-    let w = c .before .before .before .before .before in
+    let w = after-put-number-from-after-put-line-arg3 c in
     room-next _ (w .put-number .ensures) (w .before .before .before .pre)
 
 same-length : tie.Need-same-length
@@ -32,7 +40,7 @@ returns : tie.Need-returns
 unfolding unreadLine line restOfLine ascii
 returns c =
     let w = c .before .before in
-    then (w .before .before .before .before .before .before .put-number .ensures) (w .put-line .ensures)
+    then (after-put-number-from-after-put-line w .put-number .ensures) (w .put-line .ensures)
 
 pub put-unread-spec : {M : Type 1} → statement M
 put-unread-spec =

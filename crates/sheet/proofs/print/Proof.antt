@@ -8,6 +8,14 @@ use borrow.Author.Needs.{needs}
 use Rattle.sheet.proofs.print.Statement.{statement}
 use Rattle.sheet.proofs.print.Tie as tie
 
+-- ---- earlier places of the function, from later ones
+
+abbrev else-1-from-after-slice-known2 : tie.After-slice-known2 → tie.Else1
+else-1-from-after-slice-known2 c = c .before .before .before .before .before
+
+abbrev else-1-from-after-slice-known3 : tie.After-slice-known3 → tie.Else1
+else-1-from-after-slice-known3 c = c .before .before .before .before .before .before
+
 -- an input that is too long is cut to as much as is read
 cut : (c : tie.Else2) → let input = c .before .before .before .before .args .input .now in length (take mostInput input) ≡ mostInput
 cut c = length-take-le mostInput (c .before .before .before .before .args .input .now) (omega (arith, c .if2 .left))
@@ -23,7 +31,7 @@ same-length c = search needs
 
 returns-2 : tie.Need-returns-2
 returns-2 c = record {
-  short = λ h. absurd (omega (arith, h, c .before .before .before .before .before .if1 .left));
+  short = λ h. absurd (omega (arith, h, else-1-from-after-slice-known2 c .if1 .left));
   whole = λ h. rw (take-all mostInput _ (c .before .before .before .before .if2 .taken)) (c .before .before .put-printout .ensures);
 }
 
@@ -39,7 +47,7 @@ same-length-2 c = search needs
 
 returns-3 : tie.Need-returns-3
 returns-3 c = record {
-  short = λ h. absurd (omega (arith, h, c .before .before .before .before .before .before .if1 .left));
+  short = λ h. absurd (omega (arith, h, else-1-from-after-slice-known3 c .if1 .left));
   whole = λ h. c .before .before .put-printout2 .ensures;
 }
 

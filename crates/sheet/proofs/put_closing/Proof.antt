@@ -17,6 +17,17 @@ use borrow.Author.Needs.{needs}
 use Rattle.sheet.proofs.put_closing.Statement.{statement}
 use Rattle.sheet.proofs.put_closing.Tie as tie
 
+-- ---- earlier places of the function, from later ones
+
+abbrev after-executions-from-after-put-registers-arg : tie.After-put-registers-arg → tie.After-executions
+after-executions-from-after-put-registers-arg c = c .before .before .before .before .before
+
+abbrev after-put-totals : tie.After-slice-known3 → tie.After-put-totals
+after-put-totals c = c .before .before .before .before .before .before
+
+abbrev after-executions-from-after-slice-known3 : tie.After-slice-known3 → tie.After-executions
+after-executions-from-after-slice-known3 c = c .before .before .before .before .before .before .before .before
+
 -- p with the parts given
 abbrev given : tie.Start → State → State
 given a p = closingParts p (a .args .core) (a .args .counters) (a .args .registers .now)
@@ -93,7 +104,7 @@ put-totals-requires c κs = record { fits = omega (arith, start (c .before .befo
 put-registers-requires : tie.Need-put-registers-requires
 put-registers-requires c κs =
     let first = c .before .before .before .put-totals .ensures in
-    let v = c .before .before .before .before .before in
+    let v = after-executions-from-after-put-registers-arg c in
     let r = v .before .before in
     record { fits = omega (arith, start r .pre .1, first .place, same-size first, totals-fit v, registers-fit (r .before .before)) }
 
@@ -103,8 +114,8 @@ same-length c = search needs
 returns : tie.Need-returns
 returns c =
     let second = c .before .before .put-registers .ensures in
-    let first = c .before .before .before .before .before .before .put-totals .ensures in
-    let v = c .before .before .before .before .before .before .before .before in
+    let first = after-put-totals c .put-totals .ensures in
+    let v = after-executions-from-after-slice-known3 c in
     let r = v .before .before in
     let core = start r .args .core in
     record {

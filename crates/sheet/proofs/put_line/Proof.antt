@@ -7,6 +7,14 @@ use borrow.Author.Needs.{needs}
 use Rattle.sheet.proofs.put_line.Statement.{statement}
 use Rattle.sheet.proofs.put_line.Tie as tie
 
+-- ---- earlier places of the function, from later ones
+
+abbrev start : tie.After-put-unread-arg → tie.Start
+start c = c .before .before .before .before .before
+
+abbrev after-answer : tie.After-slice-known3 → tie.After-answer
+after-answer c = c .before .before .before .before .before
+
 enum-told : tie.Need-enum-told
 enum-told c = search needs
 
@@ -24,7 +32,7 @@ cast-put-unread c = search needs
 
 put-unread-requires : tie.Need-put-unread-requires
 put-unread-requires c κs =
-    let s = c .before .before .before .before .before in
+    let s = start c in
     let small : c .before .before .answer .given .0 .0 < 2 ^ 8 = search needs in
     let short = unread-short (s .args .place) (c .before .before .answer .given .0 .0) (omega (arith, s .pre .1)) small in
     record { fits = omega (arith, s .pre .0, short) }
@@ -45,7 +53,7 @@ same-length-2 c = search needs
 
 returns-3 : tie.Need-returns-3
 returns-3 c =
-    let told = c .before .before .before .before .before in
+    let told = after-answer c in
     let s = told .before .before .before in
     let small : told .answer .given .0 .0 < 2 ^ 8 = search needs in
     put-unread-line _ _ _ _ _ _ _ _ _ (told .answer .given .1) small (s .pre .1) (c .before .before .put-unread .ensures)

@@ -13,6 +13,11 @@ use borrow.Author.Needs.{needs}
 use Rattle.sheet.proofs.put_message_line.Statement.{statement}
 use Rattle.sheet.proofs.put_message_line.Tie as tie
 
+-- ---- earlier places of the function, from later ones
+
+abbrev after-kind-number : tie.After-slice-known2 → tie.After-kind-number
+after-kind-number c = c .before .before .before .before .before .before
+
 -- what the types say
 small : (c : tie.Start) → (c .args .m .request .number .panel .0 < 2 ^ 8) × (c .args .m .request .number .event .0 < 2 ^ 8)
     × (c .args .refusal < 2 ^ 8) × (c .args .undone < 2 ^ 32)
@@ -52,7 +57,7 @@ same-length c = search needs
 
 returns : tie.Need-returns
 returns c =
-    let k = c .before .before .before .before .before .before in
+    let k = after-kind-number c in
     let a = k .before .before .before .args in
     let w = c .before .before .put-message .ensures in
     let kind = k .kind-number .ensures ∙ ap kindNumber (k .before .kind-of .ensures) in

@@ -26,6 +26,14 @@ abbrev μ-loop : tie.MeasureT-loop
     place =
     length input - at
 
+-- ---- earlier places of the function, from later ones
+
+abbrev after-read : tie.After-hear-arg11 Inv-loop μ-loop → tie.After-read Inv-loop μ-loop
+after-read c = c .before .before .before .before .before .before .before .before .before .before .before
+
+abbrev after-hear : tie.After-slice-known2 Inv-loop μ-loop → tie.After-hear Inv-loop μ-loop
+after-hear c = c .before .before .before .before .before .before
+
 -- the turn in which a message is heard
 abbrev turn : tie.After-hear Inv-loop μ-loop → tie.After-read Inv-loop μ-loop
 turn c = c .before .before .before .before .before .before .before .before .before .before .before .before
@@ -54,7 +62,7 @@ read-requires c κs = search needs
 
 hear-requires : tie.Need-hear-requires Inv-loop μ-loop
 hear-requires c κs =
-    let t = c .before .before .before .before .before .before .before .before .before .before .before in
+    let t = after-read c in
     t .before .before .loop .inv .invariant
 
 put-line-requires : tie.Need-put-line-requires Inv-loop μ-loop
@@ -64,7 +72,7 @@ put-line-requires c κs =
     line-room _ _ _ _ _ _ _ _ _ (t .before .loop-test .taken) (t .before .before .loop .inv) (pre .1) (pre .0)
 
 sub-bytes-passed : tie.Need-sub-bytes-passed Inv-loop μ-loop
-sub-bytes-passed c = let t = turn (c .before .before .before .before .before .before) in omega (arith, t .before .loop-test .taken)
+sub-bytes-passed c = let t = turn (after-hear c) in omega (arith, t .before .loop-test .taken)
 
 bytes-passed-requires : tie.Need-bytes-passed-requires Inv-loop μ-loop
 bytes-passed-requires c κs = search needs

@@ -13,6 +13,17 @@ use borrow.Author.Needs.{needs}
 use Rattle.sheet.proofs.put_opened.Statement.{statement}
 use Rattle.sheet.proofs.put_opened.Tie as tie
 
+-- ---- earlier places of the function, from later ones
+
+abbrev after-put-board : tie.After-put-messages-arg12 → tie.After-put-board
+after-put-board c = c .before .before .before .before .before .before .before .before .before .before .before .before .before .before
+
+abbrev after-put-messages-from-after-put-closing-arg3 : tie.After-put-closing-arg3 → tie.After-put-messages
+after-put-messages-from-after-put-closing-arg3 c = c .before .before .before .before .before
+
+abbrev after-put-messages-from-after-slice-known4 : tie.After-slice-known4 → tie.After-put-messages
+after-put-messages-from-after-slice-known4 c = c .before .before .before .before .before .before .before .before
+
 -- ---- the board's line
 
 abbrev start : tie.After-shared-slice-known3 → tie.Start
@@ -51,7 +62,7 @@ board c = c .before .before .before .before .before .before .before .before .bef
 
 put-messages-requires : tie.Need-put-messages-requires
 put-messages-requires c κs =
-    let first = c .before .before .before .before .before .before .before .before .before .before .before .before .before .before in
+    let first = after-put-board c in
     let w = first .put-board .ensures in
     let shop = first .before .before in
     let pre = start shop .pre in (
@@ -63,7 +74,7 @@ put-messages-requires c κs =
 
 put-closing-requires : tie.Need-put-closing-requires
 put-closing-requires c κs =
-    let messages = c .before .before .before .before .before in
+    let messages = after-put-messages-from-after-put-closing-arg3 c in
     let m = messages .put-messages .ensures in
     let w = board messages .put-board .ensures in
     let shop = board messages .before .before in (
@@ -74,7 +85,7 @@ put-closing-requires c κs =
 same-length : tie.Need-same-length
 same-length c =
     let z = c .before .before .put-closing .ensures in
-    let messages = c .before .before .before .before .before .before .before .before in
+    let messages = after-put-messages-from-after-slice-known4 c in
     let m = messages .put-messages .ensures in
     let w = board messages .put-board .ensures in
     same-size (z .written (standing (m .panel)) (m .panel .invariant)) ∙ same-size (m .lines) ∙ same-size w
@@ -82,7 +93,7 @@ same-length c =
 returns : tie.Need-returns
 returns c =
     let z = c .before .before .put-closing .ensures in
-    let messages = c .before .before .before .before .before .before .before .before in
+    let messages = after-put-messages-from-after-slice-known4 c in
     let m = messages .put-messages .ensures in
     let w = board messages .put-board .ensures in
     let shop = board messages .before .before in

@@ -7,6 +7,11 @@ use borrow.Author.Needs.{needs}
 use Rattle.sheet.proofs.put_printout.Statement.{statement}
 use Rattle.sheet.proofs.put_printout.Tie as tie
 
+-- ---- earlier places of the function, from later ones
+
+abbrev else-1 : tie.After-responses → tie.Else1
+else-1 c = c .before .before .before .before .before .before .before .before .before .before .before .before
+
 -- ---- under two bytes
 
 cast-put-refused : tie.Need-cast-put-refused
@@ -31,7 +36,7 @@ returns c =
 
 put-shop-requires : tie.Need-put-shop-requires
 put-shop-requires c κs =
-    let long = c .before .before .before .before .before .before .before .before .before .before .before .before in
+    let long = else-1 c in
     (long .if1 .left, long .before .before .before .pre)
 
 same-length-2 : tie.Need-same-length-2

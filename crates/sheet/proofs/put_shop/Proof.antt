@@ -7,6 +7,11 @@ use borrow.Author.Needs.{needs}
 use Rattle.sheet.proofs.put_shop.Statement.{statement}
 use Rattle.sheet.proofs.put_shop.Tie as tie
 
+-- ---- earlier places of the function, from later ones
+
+abbrev else-1 : tie.After-put-opened-arg12 → tie.Else1
+else-1 c = c .before .before .before .before .before .before .before .before .before .before .before .before
+
 abbrev start : tie.After-fresh → tie.Start
 start c = c .before .before .before .before .before .before .before .before .before .before .before .before .before .before .before .before
 
@@ -47,7 +52,7 @@ returns c =
 
 put-opened-requires : tie.Need-put-opened-requires
 put-opened-requires c κs =
-    let accepted = c .before .before .before .before .before .before .before .before .before .before .before .before in
+    let accepted = else-1 c in
     let opened = accepted .before .before in
     let pre = start opened .pre in
     let f = opened .fresh .ensures .opened in (

@@ -8,6 +8,14 @@ use Rattle.sheet.proofs.PuttingLaws.{stateAfter, taken-in}
 use Rattle.sheet.proofs.take_in.Statement.{statement}
 use Rattle.sheet.proofs.take_in.Tie as tie
 
+-- ---- earlier places of the function, from later ones
+
+abbrev start-from-after-take-arg9 : tie.After-take-arg9 → tie.Start
+start-from-after-take-arg9 c = c .before .before .before .before .before .before .before .before .before
+
+abbrev after-take : tie.After-run-due-arg7 → tie.After-take
+after-take c = c .before .before .before .before .before .before .before .before
+
 -- the panel at the entry
 abbrev entered : tie.Start → State
 entered a =
@@ -23,12 +31,12 @@ called c = c .before .before .before .before .before .before .before .before .be
 
 take-requires : tie.Need-take-requires
 take-requires c κs =
-    let a = c .before .before .before .before .before .before .before .before .before in
+    let a = start-from-after-take-arg9 c in
     record { panel = entered a; invariant = a .pre }
 
 run-due-requires : tie.Need-run-due-requires
 run-due-requires c κs =
-    let call = c .before .before .before .before .before .before .before .before in
+    let call = after-take c in
     let kept = call .take .ensures .kept (entered (start call)) (start call .pre) in
     record { panel = stateAfter kept; invariant = kept .invariant }
 

@@ -7,6 +7,11 @@ use borrow.Author.Needs.{needs}
 use Rattle.steps.proofs.execute.Statement.{statement}
 use Rattle.steps.proofs.execute.Tie as tie
 
+-- ---- earlier places of the function, from later ones
+
+abbrev after-execute : tie.After-put-on → tie.After-execute
+after-execute c = c .before .before .before .before .before
+
 abbrev tested : tie.After-execute → tie.Else2
 tested c = c .before .before .before .before .before .before .before .before
 
@@ -61,10 +66,10 @@ put-on-requires : tie.Need-put-on-requires
 put-on-requires c κs = asked (tested (c .before .before .before .before)) .place
 
 add-after : tie.Need-add-after
-add-after c = omega (arith, asked (tested (c .before .before .before .before .before)))
+add-after c = omega (arith, asked (tested (after-execute c)))
 
 add-after-2 : tie.Need-add-after-2
-add-after-2 c = omega (arith, asked (tested (c .before .before .before .before .before)))
+add-after-2 c = omega (arith, asked (tested (after-execute c)))
 
 reply-requires : tie.Need-reply-requires
 reply-requires c κs = search needs
@@ -72,7 +77,7 @@ reply-requires c κs = search needs
 returns-3 : tie.Need-returns-3
 returns-3 c =
     let on = c .before in
-    let done = on .before .before .before .before .before in
+    let done = after-execute on in
     let kept = done .before .before in
     let saved = kept .before in
     let read = saved .before .before .before in

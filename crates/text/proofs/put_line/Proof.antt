@@ -5,6 +5,11 @@ use Rattle.text.proofs.PlacedLaws.{room-first, room-next, then}
 use Rattle.text.proofs.put_line.Statement.{statement}
 use Rattle.text.proofs.put_line.Tie as tie
 
+-- ---- earlier places of the function, from later ones
+
+abbrev start : tie.After-put-bytes → tie.Start
+start c = c .before .before .before .before .before
+
 put-bytes-requires : tie.Need-put-bytes-requires
 unfolding line
 put-bytes-requires c κs =
@@ -15,7 +20,7 @@ end-line-requires : tie.Need-end-line-requires
 unfolding line
 end-line-requires c κs =
     let w = c .before .before .before in
-    room-next _ (w .put-bytes .ensures) (w .before .before .before .before .before .pre)
+    room-next _ (w .put-bytes .ensures) (start w .pre)
 
 same-length : tie.Need-same-length
 same-length c = search needs

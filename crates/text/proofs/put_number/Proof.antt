@@ -7,6 +7,14 @@ use Rattle.text.proofs.DecimalLaws.{digits-decimal}
 use Rattle.text.proofs.put_number.Statement.{statement}
 use Rattle.text.proofs.put_number.Tie as tie
 
+-- ---- earlier places of the function, from later ones
+
+abbrev start : tie.After-digits2 → tie.Start
+start c = c .before .before .before .before .before
+
+abbrev after-decimal : tie.After-slice-known2 → tie.After-decimal
+after-decimal c = c .before .before .before .before .before
+
 digits-are : (c : tie.After-decimal) → take (c .decimal .result) (c .decimal .last .1 .0) ≡ decimal (c .before .before .before .args .n)
 digits-are c =
     let d = c .decimal in
@@ -22,13 +30,13 @@ slice-aggregate-put-bytes : tie.Need-slice-aggregate-put-bytes
 slice-aggregate-put-bytes c = search needs
 
 put-bytes-requires : tie.Need-put-bytes-requires
-put-bytes-requires c κs = rw (digits-are (c .before .before)) (c .before .before .before .before .before .pre)
+put-bytes-requires c κs = rw (digits-are (c .before .before)) (start c .pre)
 
 same-length : tie.Need-same-length
 same-length c = search needs
 
 returns : tie.Need-returns
-returns c = rw (digits-are (c .before .before .before .before .before)) at (c .before .before .put-bytes .ensures)
+returns c = rw (digits-are (after-decimal c)) at (c .before .before .put-bytes .ensures)
 
 pub put-number-spec : {M : Type 1} → statement M
 put-number-spec =

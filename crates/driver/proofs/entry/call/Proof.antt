@@ -6,6 +6,41 @@ use borrow.Author.Needs.{needs}
 use Rattle.driver.proofs.entry.call.Statement.{statement}
 use Rattle.driver.proofs.entry.call.Tie as tie
 
+-- ---- earlier places of the function, from later ones
+
+abbrev start-from-after-all-due-arg7 : tie.After-all-due-arg7 → tie.Start
+start-from-after-all-due-arg7 c = c .before .before .before .before .before .before .before .before .before .before
+
+abbrev then-1 : tie.After-all-due → tie.Then1
+then-1 c = c .before .before .before .before .before .before .before .before
+
+abbrev start-from-after-undo-counted-arg4 : tie.After-undo-counted-arg4 → tie.Start
+start-from-after-undo-counted-arg4 c = c .before .before .before .before .before .before .before .before
+
+abbrev then-2 : tie.After-undo-counted → tie.Then2
+then-2 c = c .before .before .before .before .before
+
+abbrev start-from-after-execute-counted-arg7 : tie.After-execute-counted-arg7 → tie.Start
+start-from-after-execute-counted-arg7 c = c .before .before .before .before .before .before .before .before .before .before .before .before
+
+abbrev then-3 : tie.After-execute-counted → tie.Then3
+then-3 c = c .before .before .before .before .before .before .before .before
+
+abbrev start-from-then-3 : tie.Then3 → tie.Start
+start-from-then-3 c = c .before .before .before .before .before
+
+abbrev after-read-from-after-message-call-arg9 : tie.After-message-call-arg9 → tie.After-read
+after-read-from-after-message-call-arg9 c = c .before .before .before .before .before .before .before .before .before .before
+
+abbrev start-from-after-read : tie.After-read → tie.Start
+start-from-after-read c = c .before .before .before .before .before .before
+
+abbrev after-read-from-after-message-call : tie.After-message-call → tie.After-read
+after-read-from-after-message-call c = c .before .before .before .before .before .before .before .before .before .before .before
+
+abbrev start-from-else-3 : tie.Else3 → tie.Start
+start-from-else-3 c = c .before .before .before .before .before
+
 -- the panel before the call
 abbrev panel : tie.Start → State
 panel a =
@@ -18,36 +53,36 @@ shared-slice-read-tag c = search needs
 
 all-due-requires : tie.Need-all-due-requires
 all-due-requires c κs =
-    let a = c .before .before .before .before .before .before .before .before .before .before in
+    let a = start-from-after-all-due-arg7 c in
     record { panel = panel a; invariant = a .pre .0 }
 
 returns : tie.Need-returns
 returns c =
-    let due = c .before .before .before .before .before .before .before .before in
+    let due = then-1 c in
     let a = due .before .before .before in
     done-due (panel a) _ _ _ (due .if1 .taken) (c .all-due .ensures .done (panel a) (a .pre .0))
 
 undo-counted-requires : tie.Need-undo-counted-requires
 undo-counted-requires c κs =
-    let a = c .before .before .before .before .before .before .before .before in
+    let a = start-from-after-undo-counted-arg4 c in
     record { panel = panel a; invariant = a .pre .0 }
 
 returns-2 : tie.Need-returns-2
 returns-2 c =
-    let back = c .before .before .before .before .before in
+    let back = then-2 c in
     let a = back .before .before .before .before in
     done-call (panel a) _ _ _ (back .before .if1 .left)
     (kept-undo (panel a) _ _ _ (back .if2 .taken) (c .undo-counted .ensures .kept (panel a) (a .pre .0)))
 
 execute-counted-requires : tie.Need-execute-counted-requires
 execute-counted-requires c κs =
-    let a = c .before .before .before .before .before .before .before .before .before .before .before .before in
+    let a = start-from-after-execute-counted-arg7 c in
     record { panel = panel a; invariant = a .pre .0 }
 
 returns-3 : tie.Need-returns-3
 returns-3 c =
-    let next = c .before .before .before .before .before .before .before .before in
-    let a = next .before .before .before .before .before in
+    let next = then-3 c in
+    let a = start-from-then-3 next in
     done-call (panel a) _ _ _ (next .before .before .if1 .left)
     (kept-execute (panel a) _ _ _ (next .before .if2 .left) (next .if3 .taken) (c .execute-counted .ensures .kept (panel a) (a .pre .0)))
 
@@ -59,16 +94,16 @@ read-requires c κs = search needs
 
 message-call-requires : tie.Need-message-call-requires
 message-call-requires c κs =
-    let read = c .before .before .before .before .before .before .before .before .before .before in
-    let a = read .before .before .before .before .before .before in
+    let read = after-read-from-after-message-call-arg9 c in
+    let a = start-from-after-read read in
     record { panel = panel a; invariant = a .pre .0 }
 
 returns-4 : tie.Need-returns-4
 returns-4 c =
     let called = c .before .before in
-    let read = called .before .before .before .before .before .before .before .before .before .before .before in
+    let read = after-read-from-after-message-call called in
     let other = read .before in
-    let a = other .before .before .before .before .before in
+    let a = start-from-else-3 other in
     done-call (panel a) _ _ _ (other .before .before .if1 .left)
     (kept-message (panel a) _ _ _ (other .before .if2 .left) (other .if3 .left) _ (read .read .ensures)
     (called .message-call .ensures .kept (panel a) (a .pre .0)))

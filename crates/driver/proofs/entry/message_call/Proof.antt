@@ -6,6 +6,20 @@ use borrow.Author.Needs.{needs}
 use Rattle.driver.proofs.entry.message_call.Statement.{statement}
 use Rattle.driver.proofs.entry.message_call.Tie as tie
 
+-- ---- earlier places of the function, from later ones
+
+abbrev start-from-after-invoke-arg7 : tie.After-invoke-arg7 → tie.Start
+start-from-after-invoke-arg7 c = c .before .before .before .before .before .before .before .before .before .before
+
+abbrev after-invocation-of : tie.After-invoke → tie.After-invocation-of
+after-invocation-of c = c .before .before .before .before .before .before .before .before
+
+abbrev start-from-after-take-arg7 : tie.After-take-arg7 → tie.Start
+start-from-after-take-arg7 c = c .before .before .before .before .before .before .before .before .before
+
+abbrev else-1 : tie.After-take → tie.Else1
+else-1 c = c .before .before .before .before .before .before .before .before
+
 -- a panel with the parts lent
 abbrev lent : tie.Start → State → State
 lent a p =
@@ -17,12 +31,12 @@ invocation-of-requires c κs = search needs
 
 invoke-requires : tie.Need-invoke-requires
 invoke-requires c κs =
-    let a = c .before .before .before .before .before .before .before .before .before .before in
+    let a = start-from-after-invoke-arg7 c in
     record { panel = lent a (a .pre .panel); invariant = a .pre .invariant }
 
 returns : tie.Need-returns
 returns c =
-    let asked = c .before .before .before .before .before .before .before .before in
+    let asked = after-invocation-of c in
     let a = asked .before .before .before in
     record {
       kept = λ p inv. kept-invoke (lent a p) _ _ _ (asked .before .if1 .taken) _ (asked .invocation-of .ensures) (c .invoke .ensures .kept (lent a p) inv);
@@ -30,12 +44,12 @@ returns c =
 
 take-requires : tie.Need-take-requires
 take-requires c κs =
-    let a = c .before .before .before .before .before .before .before .before .before in
+    let a = start-from-after-take-arg7 c in
     record { panel = lent a (a .pre .panel); invariant = a .pre .invariant }
 
 returns-2 : tie.Need-returns-2
 returns-2 c =
-    let other = c .before .before .before .before .before .before .before .before in
+    let other = else-1 c in
     let a = other .before .before in
     record { kept = λ p inv. kept-taken (lent a p) _ _ _ (other .if1 .left) (c .take .ensures .kept (lent a p) inv) }
 

@@ -6,6 +6,11 @@ use borrow.Author.Needs.{needs}
 use Rattle.encoding.proofs.answers.put_answer.Statement.{statement}
 use Rattle.encoding.proofs.answers.put_answer.Tie as tie
 
+-- ---- earlier places of the function, from later ones
+
+abbrev start : tie.After-put-bytes → tie.Start
+start c = c .before .before .before .before .before
+
 cast-lowest : tie.Need-cast-lowest
 cast-lowest c = search needs
 
@@ -31,7 +36,7 @@ put-message-requires : tie.Need-put-message-requires
 unfolding answerBytes headBytes integerBytes
 put-message-requires c κs =
     let head = c .before .before .before in
-    let start = head .before .before .before .before .before in
+    let start = start head in
     room-next {s = headBytes (start .args .a)} (messageBytes (start .args .a .request)) (head .put-bytes .ensures) (start .pre)
 
 same-length : tie.Need-same-length
@@ -42,7 +47,7 @@ unfolding answerBytes headBytes integerBytes
 returns c =
     let message = c .before .before in
     let head = message .before .before .before .before in
-    let a = head .before .before .before .before .before .args .a in
+    let a = start head .args .a in
     then {s = headBytes a} {t = messageBytes (a .request)} (head .put-bytes .ensures) (message .put-message .ensures)
 
 pub put-answer-spec : {M : Type 1} → statement M

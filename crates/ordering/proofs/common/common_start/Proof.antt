@@ -35,6 +35,14 @@ Inv-loop xs n ys m at place₀ place =
 abbrev μ-loop : tie.MeasureT-loop
 μ-loop xs n ys m at place₀ place = n - place
 
+-- ---- earlier places of the function, from later ones
+
+abbrev start-from-else-1 : tie.Else1 Inv-loop μ-loop → tie.Start Inv-loop μ-loop
+start-from-else-1 c = c .before .before .before .before .before
+
+abbrev start-from-then-1 : tie.Then1 Inv-loop μ-loop → tie.Start Inv-loop μ-loop
+start-from-then-1 c = c .before .before .before .before .before
+
 loop-holds : tie.Need-loop-holds Inv-loop μ-loop
 loop-holds c = (omega arith, omega arith, refl)
 
@@ -63,7 +71,7 @@ loop-less c = omega (arith, both-have (c .before .before .before))
 
 loop-again : tie.Need-loop-again Inv-loop μ-loop
 loop-again c =
-    let a = c .before .before .before .before .before .args in
+    let a = start-from-else-1 c .args in
     let v = c .before .before .before .before .loop in
     let have = both-have (c .before .before .before) in (
       omega (arith, have),
@@ -78,7 +86,7 @@ loop-again c =
 
 returns : tie.Need-returns Inv-loop μ-loop
 returns c =
-    let a = c .before .before .before .before .before .args in
+    let a = start-from-then-1 c .args in
     let v = c .before .before .before .before .loop in
     let have = both-have (c .before .before .before) in
     omega (

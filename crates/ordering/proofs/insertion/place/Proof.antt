@@ -15,6 +15,14 @@ Inv-loop clocks order from to clock slot low₀ high₀ low high = Halving (come
 abbrev μ-loop : tie.MeasureT-loop
 μ-loop clocks order from to clock slot low₀ high₀ low high = high - low
 
+-- ---- earlier places of the function, from later ones
+
+abbrev start-from-then-1 : tie.Then1 Inv-loop μ-loop → tie.Start Inv-loop μ-loop
+start-from-then-1 c = c .before .before .before .before .before
+
+abbrev start-from-else-1 : tie.Else1 Inv-loop μ-loop → tie.Start Inv-loop μ-loop
+start-from-else-1 c = c .before .before .before .before .before
+
 -- the place that a turn looks at
 abbrev middle : ℕ → ℕ → ℕ
 middle low high = low + (high - low) / 2
@@ -45,7 +53,7 @@ loop-less c = search needs
 
 loop-again : tie.Need-loop-again Inv-loop μ-loop
 loop-again c =
-    let a = c .before .before .before .before .before in
+    let a = start-from-then-1 c in
     let v = c .before .before .before .before .loop in
     halving-passed _ _ _ _ _ (a .pre .split) _ _ (v .inv) (middle (v .low) (v .high)) (omega arith) (omega arith)
     (sym (c .before .comes-before .ensures) ∙ c .if1 .taken)
@@ -58,7 +66,7 @@ loop-less-2 c = search needs
 
 loop-again-2 : tie.Need-loop-again-2 Inv-loop μ-loop
 loop-again-2 c =
-    let a = c .before .before .before .before .before in
+    let a = start-from-else-1 c in
     let v = c .before .before .before .before .loop in
     halving-failed _ _ _ _ _ (a .pre .split) _ _ (v .inv) (middle (v .low) (v .high)) (omega arith) (omega arith)
     (sym (c .before .comes-before .ensures) ∙ c .if1 .left)

@@ -23,6 +23,11 @@ Inv-loop clocks order from to clock slot left₀ at₀ left at =
 abbrev μ-loop : tie.MeasureT-loop
 μ-loop clocks order from to clock slot left₀ at₀ left at = to - at
 
+-- ---- earlier places of the function, from later ones
+
+abbrev start : tie.Joined1 Inv-loop μ-loop → tie.Start Inv-loop μ-loop
+start c = c .before .before .before .before .before
+
 loop-holds : tie.Need-loop-holds Inv-loop μ-loop
 loop-holds c = (omega arith, omega arith, refl)
 
@@ -54,7 +59,7 @@ later a = comesBefore (a .args .clocks .now) (a .args .clock) (a .args .slot)
 
 loop-again : tie.Need-loop-again Inv-loop μ-loop
 loop-again c =
-    let a = c .before .before .before .before .before in
+    let a = start c in
     let v = c .before .before .before .before .loop in
     let order = a .args .order .now in
     let below : v .at < a .args .to = omega arith in

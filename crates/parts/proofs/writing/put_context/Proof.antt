@@ -22,6 +22,14 @@ Inv-loop out₀ context to₀ p₀ out to p =
 abbrev μ-loop : tie.MeasureT-loop
 μ-loop out₀ context to₀ p₀ out to p = mostPanels - p
 
+-- ---- earlier places of the function, from later ones
+
+abbrev at-loop : tie.After-slice-known2 Inv-loop μ-loop → tie.At-loop Inv-loop μ-loop
+at-loop c = c .before .before .before .before .before .before
+
+abbrev start : tie.After-slice-known2 Inv-loop μ-loop → tie.Start Inv-loop μ-loop
+start c = c .before .before .before .before .before .before .before .before
+
 loop-holds : tie.Need-loop-holds Inv-loop μ-loop
 loop-holds c = (omega arith, omega arith, refl, refl)
 
@@ -46,8 +54,8 @@ loop-less c = omega arith
 loop-again : tie.Need-loop-again Inv-loop μ-loop
 loop-again c =
     let put = c .before .before .put-word in
-    let l = c .before .before .before .before .before .before .loop in
-    let a = c .before .before .before .before .before .before .before .before .args in
+    let l = at-loop c .loop in
+    let a = start c .args in
     let words : length (a .t2 .words) ≡ mostPanels = search needs in (
       omega arith,
       omega arith,

@@ -12,6 +12,11 @@ use Rattle.store.proofs.WordLaws.{Narrow, asked-read}
 use Rattle.store.proofs.requests.word_of.Statement.{statement}
 use Rattle.store.proofs.requests.word_of.Tie as tie
 
+-- ---- earlier places of the function, from later ones
+
+abbrev start : tie.After-struct-known5 → tie.Start
+start c = c .before .before .before .before .before
+
 -- the number of a bool
 bool-number : (b : Bool) → boolByte b ≡ one b
 bool-number true = refl
@@ -19,7 +24,7 @@ bool-number false = refl
 
 -- what is asked for, from where all its fields are read
 abbrev asked : tie.After-struct-known5 → Asked
-asked c = c .before .before .before .before .before .args .a
+asked c = start c .args .a
 
 cast-code : tie.Need-cast-code
 cast-code c = search needs

@@ -10,6 +10,11 @@ use borrow.Author.Needs.{needs}
 use Rattle.wire.proofs.writer.write.Statement.{statement}
 use Rattle.wire.proofs.writer.write.Tie as tie
 
+-- ---- earlier places of the function, from later ones
+
+abbrev start : tie.After-size-of → tie.Start
+start c = c .before .before .before .before .before
+
 -- what the types say of m; `words` is what owning m tells of the array in its context
 held : (c : tie.Start) → Held (c .args .m .request)
 held c =
@@ -68,7 +73,7 @@ returns-3 : tie.Need-returns-3
 returns-3 c =
     let p = c .before .before in
     let b = p .before .before .before in
-    let s = b .before .before .before .before .before in
+    let s = start b in
     let room = rw (b .size-of .ensures) at (p .before .before .if2 .left) in
     let k = written (said (s .args .m)) (s .args .out .now) (sendable (b .before .before)) room in
     record {
