@@ -1,9 +1,9 @@
 -- What follows from the layout for any kind: its sizes, and the kind that a number tells.
 use Prim.Native.Nat.{ℕ, _+_, _≤_}
-use mathlib.Core.Path.{_≡_}
+use mathlib.Core.Path.{_≡_, refl, ap}
 use mathlib.Core.Bool.{Bool}
 use mathlib.Core.List.{_++_}
-use mathlib.Core.Option.{none, some}
+use mathlib.Core.Option.{Option, none, some}
 use native.Mathlib.Omega.{arith}
 use lib.Dec.{eqb}
 use lib.ListN.{replicate}
@@ -11,7 +11,8 @@ use borrow.Author.Tests.{eqb-true, ne-eqb}
 use Rattle.lists.proofs.ListLaws.{count-never, none-find, found-passes}
 use Rattle.parts.proofs.WidthLaws.{size-append, size-bytes}
 use Rattle.wire.specs.declared.Kind.{Kind}
-use Rattle.wire.specs.Layout.{byteWidth, headSize, size, kinds, kindNumber, layout, kindWith, widthsWith, leastSize}
+use Rattle.wire.specs.declared.KindTold.the-variants.{Known, Unknown}
+use Rattle.wire.specs.Layout.{byteWidth, headSize, size, kinds, kindNumber, layout, kindWith, told, widthsWith, leastSize}
 
 -- ---- sizes
 
@@ -39,6 +40,19 @@ head-least k = omega arith
 pub known-number : (n : ℕ) (k : Kind) → kindWith n ≡ some k → n ≡ kindNumber k
 unfolding kindWith
 known-number n k e = eqb-true n (kindNumber k) (found-passes (λ k. eqb n (kindNumber k)) k kinds e)
+
+-- the code's form says the same
+pub told-known : (o : Option Kind) (k : Kind) → told o ≡ Known k → o ≡ some k
+told-known none k e =
+    let no : _≡_ {A = ℕ} 0 1 = cc in
+    absurd (omega arith)
+told-known (some j) k e = ap some (cc e)
+
+pub told-unknown : (o : Option Kind) → told o ≡ Unknown → o ≡ none
+told-unknown none e = refl
+told-unknown (some j) e =
+    let no : _≡_ {A = ℕ} 0 1 = cc in
+    absurd (omega arith)
 
 pub unknown-number : (n : ℕ) → ((k : Kind) → n ≡ kindNumber k → ⊥) → kindWith n ≡ none
 unfolding kindWith

@@ -3,7 +3,7 @@ use Prim.Native.Nat.{ℕ, _+_, _-_, _≤_, _<_}
 use mathlib.Core.Path.{_≡_, refl, ap, _∙_}
 use mathlib.Core.Bool.{Bool, true, false, not, cond}
 use mathlib.Core.List.{List, [], _∷_}
-use mathlib.Core.Option.{Option, none, some}
+use mathlib.Core.Option.{Option, some}
 use native.Mathlib.Omega.{arith}
 use lib.Dec.{leb, eqb}
 use lib.ListN.{length, getD}
@@ -15,7 +15,7 @@ use Rattle.wire.specs.Layout.{kindNumber, kindWith, layout, leastSize, m
 use Rattle.wire.specs.Message.{spareByte, messageFrom}
 use Rattle.wire.specs.Reader.{message, end, refused, lengthAt, kindAt, fieldsAt, spareSet, LaidOut}
 use Rattle.wire.specs.Reader.{refusalAs, readAs, readWith, readAt}
-use Rattle.wire.proofs.LayoutLaws.{head-least, unknown-number}
+use Rattle.wire.proofs.LayoutLaws.{head-least}
 use Rattle.wire.proofs.KindLaws.{kind-laws}
 
 -- ---- a message of a kind
@@ -98,6 +98,3 @@ module _ (s : List ℕ) (at : ℕ) where
 
     pub of-kind : (k : Kind) → kindAt s at ≡ kindNumber k → readAt s at ≡ readAs k s at
     of-kind k e = of-option (some k) (ap kindWith e ∙ kind-laws k .known)
-
-    pub of-no-kind : ((k : Kind) → kindAt s at ≡ kindNumber k → ⊥) → readAt s at ≡ refused refusal.unknownKind
-    of-no-kind h = of-option none (unknown-number (kindAt s at) h)

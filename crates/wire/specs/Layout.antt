@@ -2,13 +2,15 @@
 -- from it. The widths, and what follows for any widths, are those of `parts`, passed on.
 use Prim.Native.Nat.{ℕ, _+_}
 use mathlib.Core.List.{List, [], _∷_, _++_}
-use mathlib.Core.Option.{Option}
+use mathlib.Core.Option.{Option, none, some}
 use lib.Dec.{eqb}
 use lib.ListN.{replicate}
 use Rattle.lists.specs.Lists.{find}
 use Rattle.parts.specs.Widths.{settlementWidths, strongWidths}
 use Rattle.wire.specs.declared.Kind.{Kind}
 use Rattle.wire.specs.declared.Kind.the-variants.{Weak, Strong, Settlement}
+use Rattle.wire.specs.declared.KindTold.{KindTold}
+use Rattle.wire.specs.declared.KindTold.the-variants.{Known, Unknown}
 unfoldable pub use Rattle.parts.specs.Widths.{decode, encode}
 pub use Rattle.parts.specs.Widths.{headWidths, numberWidths, bodyWidths, byteWidth, wordWidth, contextWidths, size, Within}
 pub use Rattle.parts.specs.Widths.{lengthField, kindField, spareField, contextField, headFields, headSize}
@@ -46,6 +48,11 @@ layout Settlement = record { front = numberWidths; mostRun = 0; behind = []; spa
 -- the kind of that number, where there is one
 unfoldable pub kindWith : ℕ → Option Kind
 kindWith n = find (λ k. eqb n (kindNumber k)) kinds
+
+-- the same as the code holds it
+abbrev pub told : Option Kind → KindTold
+told none = Unknown
+told (some k) = Known k
 
 -- the widths of all fields of a message of this kind whose run has n bytes
 unfoldable pub widthsWith : Kind → ℕ → List ℕ

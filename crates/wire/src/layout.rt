@@ -1,8 +1,9 @@
 // The numbers of the kinds and the sizes of their messages, as `layout` of `specs/` has them.
 use super::Kind;
+use super::KindTold;
 use parts::places;
 ghost use mathlib.Core.Path.{_≡_};
-ghost use Rattle.wire.specs.Layout.{kindNumber, layout, leastSize};
+ghost use Rattle.wire.specs.Layout.{kindNumber, kindWith, told, layout, leastSize};
 
 pub const WEAK: u8 = 1;
 
@@ -24,6 +25,22 @@ pub fn kind_number(k: Kind) -> u8
         Kind::Strong => STRONG,
         Kind::Settlement => SETTLEMENT,
     }
+}
+
+// The kind of that number.
+pub fn kind_with(number: u64) -> KindTold
+    ensures { λ r. ⌜ r ≡ told (kindWith number) ⌝ }
+{
+    if number == WEAK as u64 {
+        return KindTold::Known(Kind::Weak);
+    }
+    if number == STRONG as u64 {
+        return KindTold::Known(Kind::Strong);
+    }
+    if number == SETTLEMENT as u64 {
+        return KindTold::Known(Kind::Settlement);
+    }
+    KindTold::Unknown
 }
 
 // The bytes of a message of a kind without a run.

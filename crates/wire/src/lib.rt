@@ -25,6 +25,12 @@ pub enum Kind {
     Settlement,
 }
 
+// The kind that a number tells, where there is one.
+pub enum KindTold {
+    Known(Kind),
+    Unknown,
+}
+
 // What a message is about: a request, weak or strong, or the settlement of one.
 pub enum Subject {
     Request,

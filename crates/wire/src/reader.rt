@@ -1,5 +1,6 @@
 // The reader: one message from a lent run of bytes and a place in it. It judges layout only.
 use super::Kind;
+use super::KindTold;
 use super::Message;
 use super::ReadAnswer;
 use super::Reading;
@@ -28,17 +29,12 @@ pub fn read(s: &[u8], at: usize) -> Reading
     if len - at < places::HEAD_SIZE {
         return untaken(ReadAnswer::Refused(refusal::CUT_SHORT));
     }
-    let kind = integers::integer_at(s, at + places::KIND_AT, places::KIND_WIDTH);
-    if kind == layout::WEAK as u64 {
-        return read_as(s, at, Kind::Weak);
+    let number = integers::integer_at(s, at + places::KIND_AT, places::KIND_WIDTH);
+    let told = layout::kind_with(number);
+    match told {
+        KindTold::Known(kind) => read_as(s, at, kind),
+        KindTold::Unknown => untaken(ReadAnswer::Refused(refusal::UNKNOWN_KIND)),
     }
-    if kind == layout::STRONG as u64 {
-        return read_as(s, at, Kind::Strong);
-    }
-    if kind == layout::SETTLEMENT as u64 {
-        return read_as(s, at, Kind::Settlement);
-    }
-    untaken(ReadAnswer::Refused(refusal::UNKNOWN_KIND))
 }
 
 // The refusal number of an answer, 0 where it is none.

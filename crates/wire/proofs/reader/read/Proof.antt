@@ -1,40 +1,30 @@
 -- `reader::read` meets its contract, by what stands at the place.
+use Prim.Native.Nat.{ℕ}
 use mathlib.Core.Path.{_≡_, sym, ap, _∙_}
+use mathlib.Core.Option.{Option, none, some}
 use native.Mathlib.Omega.{arith}
-use Rattle.request.specs.Refusal as refusal
 use Rattle.wire.specs.declared.Kind.{Kind}
-use Rattle.wire.specs.declared.Kind.the-variants.{Weak, Strong, Settlement}
-use Rattle.wire.specs.Layout.{kindNumber, decode}
-use Rattle.wire.specs.Reader.{answered, refused, kindAt, readAs, readAt}
-use Rattle.wire.proofs.ReaderLaws.{at-end, head-cut, of-kind, of-no-kind}
+use Rattle.wire.specs.Layout.{kindWith, told, decode}
+use Rattle.wire.specs.Reader.{answered, kindAt, readWith, readAt}
+use Rattle.wire.proofs.LayoutLaws.{told-known, told-unknown}
+use Rattle.wire.proofs.ReaderLaws.{at-end, head-cut, of-option}
 use borrow.Author.Needs.{needs}
 use Rattle.wire.proofs.reader.read.Statement.{statement}
 use Rattle.wire.proofs.reader.read.Tie as tie
 
--- the number that was read is the kind's
-kind-read : (c : tie.After-integer-at)
-    → c .integer-at .result ≡ kindAt (c .before .before .before .before .args .s .now) (c .before .before .before .before .args .at)
+abbrev startOf : tie.After-kind-with → tie.Start
+startOf c = c .before .before .before .before .before
+
+-- what was told is the kind of the number that stands there
+kind-told : (c : tie.After-kind-with)
+    → c .kind-with .result ≡ told (kindWith (kindAt (startOf c .args .s .now) (startOf c .args .at)))
 unfolding kindAt decode
-kind-read c = c .integer-at .ensures .0
+kind-told c = c .kind-with .ensures ∙ ap (λ (n : ℕ). told (kindWith n)) (c .before .integer-at .ensures .0)
 
-known : (c : tie.After-integer-at) (k : Kind) → c .integer-at .result ≡ kindNumber k
-    → readAt (c .before .before .before .before .args .s .now) (c .before .before .before .before .args .at)
-    ≡ readAs k (c .before .before .before .before .args .s .now) (c .before .before .before .before .args .at)
-known c k e = of-kind _ _ (c .before .before .if1 .left) (c .before .if2 .left) k (sym (kind-read c) ∙ e)
-
-abbrev start : tie.Else5 → tie.Start
-start c = c .before .before .before .before .before .before .before
-
-no-kind : (c : tie.Else5) (k : Kind)
-    → kindAt (start c .args .s .now) (start c .args .at) ≡ kindNumber k → ⊥
-no-kind c Weak e = c .before .before .if3 .left (kind-read (c .before .before .before) ∙ e)
-no-kind c Strong e = c .before .if4 .left (kind-read (c .before .before .before) ∙ e)
-no-kind c Settlement e = c .if5 .left (kind-read (c .before .before .before) ∙ e)
-
-unknown : (c : tie.Else5) → readAt (start c .args .s .now) (start c .args .at) ≡ refused refusal.unknownKind
-unknown c =
-    let b = c .before .before .before in
-    of-no-kind _ _ (b .before .before .if1 .left) (b .before .if2 .left) (no-kind c)
+-- so the outcome is by it
+outcome : (c : tie.After-kind-with) (o : Option Kind) → kindWith (kindAt (startOf c .args .s .now) (startOf c .args .at)) ≡ o
+    → readAt (startOf c .args .s .now) (startOf c .args .at) ≡ readWith o (startOf c .args .s .now) (startOf c .args .at)
+outcome c o e = of-option _ _ (c .before .before .before .if1 .left) (c .before .before .if2 .left) o e
 
 untaken-requires : tie.Need-untaken-requires
 untaken-requires c κs = tt
@@ -59,39 +49,34 @@ add-integer-at c = search needs
 integer-at-requires : tie.Need-integer-at-requires
 integer-at-requires c κs = search needs
 
-cast-if3 : tie.Need-cast-if3
-cast-if3 c = search needs
+kind-with-requires : tie.Need-kind-with-requires
+kind-with-requires c κs = tt
+
+enum-known-told : tie.Need-enum-known-told
+enum-known-told c = search needs
 
 read-as-requires : tie.Need-read-as-requires
 read-as-requires c κs = omega arith
 
-returns-3 : tie.Need-returns-3
-returns-3 c = c .read-as .ensures ∙ sym (ap answered (known (c .before .before) Weak (c .before .if3 .taken)))
-
-cast-if4 : tie.Need-cast-if4
-cast-if4 c = search needs
-
-read-as-requires-2 : tie.Need-read-as-requires-2
-read-as-requires-2 c κs = omega arith
-
-returns-4 : tie.Need-returns-4
-returns-4 c = c .read-as2 .ensures ∙ sym (ap answered (known (c .before .before .before) Strong (c .before .if4 .taken)))
-
-cast-if5 : tie.Need-cast-if5
-cast-if5 c = search needs
-
-read-as-requires-3 : tie.Need-read-as-requires-3
-read-as-requires-3 c κs = omega arith
-
-returns-5 : tie.Need-returns-5
-returns-5 c = c .read-as3 .ensures ∙ sym (ap answered (known (c .before .before .before .before) Settlement (c .before .if5 .taken)))
+enum-told : tie.Need-enum-told
+enum-told c = search needs
 
 untaken-requires-3 : tie.Need-untaken-requires-3
 untaken-requires-3 c κs = tt
 
-returns-6 : tie.Need-returns-6
+returns-3 : tie.Need-returns-3
+returns-3 c =
+    let match = c .before .before in
+    let w = match .before .before in
+    let known = told-known _ _ (sym (kind-told w) ∙ match .told .given .1) in
+    c .read-as .ensures ∙ sym (ap answered (outcome w (some _) known))
+
+returns-4 : tie.Need-returns-4
 unfolding answered
-returns-6 c = c .untaken3 .ensures ∙ sym (ap answered (unknown (c .before)))
+returns-4 c =
+    let w = c .before .before .before in
+    let unknown = told-unknown _ (sym (kind-told w) ∙ c .before .enum-told .given .1) in
+    c .untaken3 .ensures ∙ sym (ap answered (outcome w none unknown))
 
 pub read-spec : {M : Type 1} → statement M
 read-spec =
@@ -104,14 +89,10 @@ read-spec =
     returns-2
     add-integer-at
     integer-at-requires
-    cast-if3
+    kind-with-requires
+    enum-known-told
     read-as-requires
-    returns-3
-    cast-if4
-    read-as-requires-2
-    returns-4
-    cast-if5
-    read-as-requires-3
-    returns-5
+    enum-told
     untaken-requires-3
-    returns-6)
+    returns-3
+    returns-4)
