@@ -1,5 +1,5 @@
 -- A call is accepted, with its answer and its effect, or refused, with its number and no effect; it answers with the book's refusal
--- number; the book depends on the calls alone; and two lists of calls in turn are one.
+-- number, and so does each of a list of calls; the book depends on the calls alone; and two lists of calls in turn are one.
 use mathlib.Core.Path.{_≡_, refl, sym, ap, _∙_}
 use mathlib.Core.Bool.{Bool, true, false, cond}
 use mathlib.Core.List.{List, [], _∷_, _++_}
@@ -14,7 +14,7 @@ use Rattle.creek.specs.Book.{Call, invoke, deliver, commit, undo, execut
 use Rattle.creek.specs.Replies.{refusedWith, stableReplyDue, settlementReply, undoReply}
 use Rattle.creek.specs.Replies.{executionReply, acceptedAnswer, namedByRefusal, answerOf}
 use Rattle.creek.specs.Calls.{Replica, accept, step, answer}
-use Rattle.creek.specs.History.{run}
+use Rattle.creek.specs.History.{run, answersTo, refusalsIn, refusals}
 
 -- what holds of both outcomes holds of the call: of whether it is accepted, what it answers and what it leaves
 pub by-outcome : (P : Bool → Answer → Replica → Type 0) (r : Replica) (c : Call)
@@ -91,3 +91,18 @@ pub run-append : (r : Replica) (cs ds : List Call) → run r (cs ++ ds) ≡ run 
 unfolding run
 run-append r [] ds = refl
 run-append r (c ∷ cs) ds = run-append (step r c) cs ds
+
+pub answers-append : (r : Replica) (cs ds : List Call) → answersTo r (cs ++ ds) ≡ answersTo r cs ++ answersTo (run r cs) ds
+unfolding answersTo run
+answers-append r [] ds = refl
+answers-append r (c ∷ cs) ds = ap (λ (l : List Answer). answer r c ∷ l) (answers-append (step r c) cs ds)
+
+-- ---- the refusals of a list of calls are the book's
+
+pub answers-refusals : (r : Replica) (cs : List Call) → refusalsIn (answersTo r cs) ≡ refusals (r .book) cs
+unfolding answersTo refusals
+answers-refusals r [] = refl
+answers-refusals r (c ∷ cs) =
+    let first = answer-refusal r c in
+    let others = answers-refusals (step r c) cs ∙ ap (λ (b : Book). refusals b cs) (step-book r c) in
+    λ i. first i ∷ others i

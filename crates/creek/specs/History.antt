@@ -2,7 +2,7 @@
 -- steps that are due.
 use Prim.Native.Nat.{ℕ, zero, suc, _+_}
 use mathlib.Core.Bool.{Bool, _&&_, cond}
-use mathlib.Core.List.{List, [], _∷_}
+use mathlib.Core.List.{List, [], _∷_, map}
 use Rattle.lists.specs.Lists.{one, isNil}
 use Rattle.creek.specs.declared.Answer.{Answer}
 use Rattle.creek.specs.Book.{Call, undo, execute, Book, refusal, isAccepted, noted}
@@ -18,6 +18,10 @@ run r (c ∷ cs) = run (step r c) cs
 unfoldable pub answersTo : Replica → List Call → List Answer
 answersTo r [] = []
 answersTo r (c ∷ cs) = answer r c ∷ answersTo (step r c) cs
+
+-- the refusal number of each answer
+abbrev pub refusalsIn : List Answer → List ℕ
+refusalsIn answers = map (λ (a : Answer). a .refusal) answers
 
 -- the refusal number of each call, 0 for an accepted one, by the book, fed the calls alone
 unfoldable pub refusals : Book → List Call → List ℕ

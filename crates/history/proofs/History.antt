@@ -4,7 +4,7 @@ use Prim.Native.Nat.{ℕ, zero, suc, _-_, _≤_, _<_}
 use native.Mathlib.Omega.{arith}
 use mathlib.Core.Path.{_≡_, refl, sym, ap, _∙_}
 use mathlib.Core.Bool.{Bool, true, false}
-use mathlib.Core.List.{List, [], _∷_, _++_, map}
+use mathlib.Core.List.{List, _∷_, _++_, map}
 use lib.ListN.{length, replicate}
 use lib.Dec.{eqb}
 use Rattle.lists.specs.Lists.{consIf, keep}
@@ -15,18 +15,18 @@ use Rattle.creek.specs.Plan.{order}
 use Rattle.creek.specs.Execution.{operations, registers, owed, isIdle}
 use Rattle.creek.specs.Book.{Call, Book, refusal, notedAll}
 use Rattle.creek.specs.Calls.{Replica, fresh, step, answer}
-use Rattle.creek.specs.History.{run, afterDueSteps, dueCalls, idled, dueCall, answersTo, refusals}
+use Rattle.creek.specs.History.{run, afterDueSteps, dueCalls, idled, dueCall, answersTo, refusalsIn}
 use Rattle.creek.proofs.DueLaws.{due-calls, run-due, undos-done, executions-done}
 use Rattle.creek.specs.Showing.{undosShown, executionsShown, owedShown}
 use Rattle.creek.specs.Demand.{Demand3}
-use Rattle.creek.proofs.CallLaws.{answer-refusal, step-book, run-book, run-append}
+use Rattle.creek.proofs.CallLaws.{answer-refusal, run-book, run-append, answers-append, answers-refusals}
 use Rattle.creek.proofs.Demand.{demand-3}
 use Rattle.replica.specs.State.{State, Opened}
 use Rattle.due.specs.Due.{DueOutcome, noReply, replyIn, isAwaited, dueReplies, mostReplies, repliesOwed, RunDue}
 use Rattle.steps.specs.declared.DueReply.{DueReply}
 use Rattle.replica.specs.Model.{model, Inv, Fresh}
 use Rattle.replica.proofs.ModelLaws.{registers-are}
-use Rattle.history.specs.History.{openedBook, stepsDue, answersDue, Leads, stay, call, all-due, refusalsIn}
+use Rattle.history.specs.History.{openedBook, stepsDue, answersDue, Leads, stay, call, all-due}
 use Rattle.history.specs.History.{repliesIn, DueStepsDone, AllDueDone, PanelDemand3}
 
 -- ---- all due steps at once, and the single steps
@@ -34,11 +34,6 @@ use Rattle.history.specs.History.{repliesIn, DueStepsDone, AllDueDone, P
 -- all due steps at once lead where the single steps lead
 due-model : (p : State) (r : DueOutcome) → RunDue p r → model (r .state) ≡ run (model p) (stepsDue p)
 due-model p r ran = ran .state ∙ sym (run-due (owedShown (model p)) (model p))
-
-answers-append : (r : Replica) (cs ds : List Call) → answersTo r (cs ++ ds) ≡ answersTo r cs ++ answersTo (run r cs) ds
-unfolding answersTo run
-answers-append r [] ds = refl
-answers-append r (c ∷ cs) ds = ap (λ (l : List Answer). answer r c ∷ l) (answers-append (step r c) cs ds)
 
 -- ---- from one call to a list of calls
 
@@ -69,16 +64,6 @@ leads-answers inv (call {cs = cs} r kept rest) =
 leads-answers inv (all-due {p = p} {cs = cs} r ran rest) =
     let others = leads-answers (ran inv .invariant) rest ∙ ap (λ (x : Replica). answersTo x cs) (due-model p r (ran inv)) in
     ap (λ (l : List Answer). answersDue p ++ l) others ∙ sym (answers-append (model p) (stepsDue p) cs)
-
--- ---- what the book says
-
-answers-refusals : (r : Replica) (cs : List Call) → refusalsIn (answersTo r cs) ≡ refusals (r .book) cs
-unfolding answersTo refusals
-answers-refusals r [] = refl
-answers-refusals r (c ∷ cs) =
-    let first = answer-refusal r c in
-    let others = answers-refusals (step r c) cs ∙ ap (λ (b : Book). refusals b cs) (step-book r c) in
-    λ i. first i ∷ others i
 
 -- ---- due steps
 

@@ -19,13 +19,13 @@ use Rattle.creek.specs.Execution.{operations, registers, adjusted, executedNext
 use Rattle.creek.specs.Book.{Call, execute, refusal, accepted, noted}
 use Rattle.creek.specs.Replies.{executionMark, executionReply, acceptedAnswer, answerOf, acceptedAwaiting}
 use Rattle.creek.specs.Calls.{Replica, badShop, fresh, accept, step}
-use Rattle.creek.specs.History.{run, dueCalls, answersTo}
+use Rattle.creek.specs.History.{run, dueCalls, answersTo, refusalsIn}
 use Rattle.creek.specs.Showing.{registerShown, requestsShown, undosShown, executionsShown, owedShown}
 use Rattle.replica.specs.State.{State}
 use Rattle.steps.specs.declared.DueReply.{DueReply}
 use Rattle.replica.specs.Model.{model, Inv, Fresh}
 use Rattle.due.specs.Due.{noReply, RunDue}
-use Rattle.history.specs.History.{Leads, stay, call, all-due, refusalsIn, repliesIn, AllDueDone, PanelDemand3}
+use Rattle.history.specs.History.{Leads, stay, call, all-due, repliesIn, AllDueDone, PanelDemand3}
 use Rattle.history.specs.Worthless.{PanelCall, single, runDue, singly, Panel, next, after, standFor, answersFrom, KeepsCall}
 use Rattle.history.specs.Worthless.{KeepsCalls, reached, Keeps, RefusesEach, RepliesAlways, LeavesAlone, ExecutesAll}
 use Rattle.history.specs.Worthless.{InventsCounters, LeavesDue, RepliesDueAlways, InventsDueCounts, NotWorthless}

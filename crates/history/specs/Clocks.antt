@@ -9,9 +9,9 @@ use Rattle.lists.specs.Lists.{count}
 use Rattle.request.specs.Refusal as refused
 use Rattle.creek.specs.declared.Answer.{Answer}
 use Rattle.creek.specs.Clocks.{InEventOrder}
+use Rattle.creek.specs.History.{refusalsIn}
 use Rattle.replica.specs.State.{State}
 use Rattle.replica.specs.Model.{model}
-use Rattle.history.specs.History.{refusalsIn}
 
 -- the number is 5, clock back
 abbrev pub isClockBack : ℕ → Bool

@@ -16,7 +16,7 @@ use Rattle.creek.specs.declared.Answer.{Answer}
 use Rattle.creek.specs.Execution.{board, operations, owed, isIdle}
 use Rattle.creek.specs.Book.{Call, Book, notedAll}
 use Rattle.creek.specs.Calls.{fresh, bringsRequest, isCommit, isUndo, isExecute}
-use Rattle.creek.specs.History.{answersTo, refusals, acceptedIn, dueCalls}
+use Rattle.creek.specs.History.{answersTo, refusals, acceptedIn, dueCalls, refusalsIn}
 use Rattle.creek.specs.Showing.{requestsShown, commitsShown, undosShown, executionsShown, owedShown}
 use Rattle.creek.specs.Demand.{mostUndos}
 use Rattle.replica.specs.State.{State, Called}
@@ -49,10 +49,6 @@ pub data Leads : State → List Call → List Answer → State → Type 0 where
       → (Inv p → Kept p c r) → Leads (r .state) cs answers q → Leads p (c ∷ cs) (r .answer ∷ answers) q
   all-due : {p q : State} {cs : List Call} {answers : List Answer} (r : DueOutcome)
       → (Inv p → RunDue p r) → Leads (r .state) cs answers q → Leads p (stepsDue p ++ cs) (answersDue p ++ answers) q
-
--- the refusal number of each answer
-abbrev pub refusalsIn : List Answer → List ℕ
-refusalsIn answers = map (λ (a : Answer). a .refusal) answers
 
 -- number, response and mark of each answer that has a mark
 abbrev pub repliesIn : List Answer → List DueReply
