@@ -90,8 +90,8 @@ typedef struct {
 
 /* What a request asks for; one that is not strong is weak. */
 typedef struct {
-    mizzencord_operation operation;
     bool strong;
+    mizzencord_operation operation;
 } mizzencord_asked;
 
 /* What is handed over when a request is made: what it asks for, and the clock reading. */

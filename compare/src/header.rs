@@ -27,8 +27,8 @@ pub struct Operation {
 #[repr(C)]
 #[derive(Clone, Copy, Debug, Default, PartialEq, Eq)]
 pub struct Asked {
-    pub operation: Operation,
     pub strong: u8,
+    pub operation: Operation,
 }
 
 #[repr(C)]

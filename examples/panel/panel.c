@@ -41,7 +41,7 @@ static void print_reply(int panel, mizzencord_number number, uint32_t response, 
 }
 
 static void make(int panel, mizzencord_operation operation, bool strong, uint32_t clock) {
-    mizzencord_invocation invocation = {{operation, strong}, clock};
+    mizzencord_invocation invocation = {{strong, operation}, clock};
     mizzencord_answer answer = mizzencord_invoke(&stations[panel].board, invocation);
     if (answer.refusal != MIZZENCORD_ACCEPTED) {
         printf("panel %d cannot make it: %s\n", panel, refusals[answer.refusal]);

@@ -27,8 +27,8 @@ pub struct Operation {
 // What a request asks for: an operation, strong or weak.
 #[repr(C)]
 pub struct Asked {
-    pub operation: Operation,
     pub strong: bool,
+    pub operation: Operation,
 }
 
 // A request.
