@@ -16,7 +16,7 @@ const MOST_CALLS: usize = (65536 - CALLS_AT) / CALL_SIZE;
 const RESPONSE_AT: usize = 4;
 
 // Runs a list of calls and prints its answers.
-pub fn print_run(calls: &[u8]) {
+pub(crate) fn print_run(calls: &[u8]) {
     let mut answers = page();
     let mut held = [0u64; 8];
     let mut known = [0u64; 8];
@@ -114,7 +114,7 @@ fn print_field(n: u64) {
 }
 
 // Ends a printed line.
-pub fn end_line() {
+pub(crate) fn end_line() {
     let end = [b'\n'];
     io::write_all(STDOUT_FILENO, &end);
 }
