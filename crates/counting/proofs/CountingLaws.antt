@@ -7,12 +7,13 @@ use Rattle.counters.specs.Counted.{mostSteps, undosCounted, executionsCounted}
 use Rattle.numbers.specs.Numbers.{noNumber}
 use Rattle.creek.specs.declared.Answer.{Answer}
 use Rattle.creek.specs.Replies.{noMark, reply}
-use Rattle.creek.specs.Sound.{mostRequests}
+use Rattle.creek.specs.internal.Sound.{mostRequests}
 use Rattle.replica.specs.declared.Core.{Core}
 use Rattle.steps.specs.declared.StepResult.{StepResult}
 use Rattle.due.specs.declared.DueResult.{DueResult}
 use Rattle.steps.specs.Steps.{undoParts, executeParts, UndoKept, ExecuteKept}
-use Rattle.due.specs.Due.{ranParts, RunDue, DueKept}
+use Rattle.due.specs.Due.{RunDue}
+use Rattle.due.specs.internal.Parts.{ranParts, DueKept}
 use Rattle.replica.proofs.BoundLaws.{undos-fit, executions-fit}
 use Rattle.counting.specs.Counting.{UndoAsks, UndoCounted, ExecuteAsks, ExecuteCounted, DueCounted}
 use Rattle.encoding.proofs.DueLaws.{steps-few, done-all-due}

@@ -5,7 +5,8 @@ use Rattle.counters.specs.declared.Counters.{Counters}
 use Rattle.creek.specs.Book.{undo, execute}
 use Rattle.replica.specs.declared.Core.{Core}
 use Rattle.replica.specs.State.{State, Called}
-use Rattle.replica.specs.Model.{Inv, Kept}
+use Rattle.replica.specs.Promises.{Kept}
+use Rattle.replica.specs.internal.Model.{Inv}
 use Rattle.steps.specs.Steps.{undoParts, executeParts}
 use Rattle.encoding.specs.Encoding.{allDue, Done}
 use Rattle.counting.specs.declared.EntryResult.{EntryResult}

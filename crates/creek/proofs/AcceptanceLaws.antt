@@ -23,7 +23,7 @@ use Rattle.lists.specs.Lists.{one, count, find}
 use Rattle.creek.specs.Plan.{Plan, order, hasNumber, held, isOf, lastEvent, lastClock, without}
 use Rattle.creek.specs.Plan.{nextNumber, requestWith, later, atLeast, made, committing, committingFound}
 use Rattle.creek.specs.Plan.{committingNumber, met, invokeRefusal, heldRefusal, deliverRefusal, isCommitted, waits, foundRefusal, commitRefusal}
-use Rattle.creek.specs.Sound.{isBad, ownBeyond, SoundPlan}
+use Rattle.creek.specs.internal.Sound.{isBad, ownBeyond, SoundPlan}
 use Rattle.lists.proofs.ListLaws.{one-true, count-append, count-weaker}
 use Rattle.lists.proofs.ListLaws.{none-passes-count, count-keep, find-none, found-passes}
 use Rattle.lists.proofs.ListLaws.{find-skip}

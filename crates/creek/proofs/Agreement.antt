@@ -24,7 +24,7 @@ use Rattle.creek.specs.Book.{Call, invoke, deliver, commit, undo, execut
 use Rattle.creek.specs.Calls.{Replica, badShop, replicaOf, fresh, bringsRequest, isCommit, accept, step}
 use Rattle.creek.specs.History.{run, acceptedIn}
 use Rattle.creek.specs.Showing.{registerShown, placeRefusal, placeShown}
-use Rattle.creek.specs.Sound.{SoundPlan, Sound}
+use Rattle.creek.specs.internal.Sound.{SoundPlan, Sound}
 use Rattle.creek.specs.Agreement.{inClockOrder, committingFoundIn, committingNumberIn, committingInTurn, standingOrder}
 use Rattle.creek.specs.Agreement.{EachNumberOnce, broughtBy, settledBy, gathered, acceptedRequests, acceptedSettlements}
 use Rattle.creek.specs.Agreement.{History, openedIn, requestsIn, settlementsIn, replicaAfter, ComesToOrder, GrowsAtEnd}

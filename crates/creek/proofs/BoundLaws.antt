@@ -7,7 +7,7 @@ use lib.ListN.{length, length-append}
 use Rattle.lists.proofs.ListLaws.{count-most}
 use Rattle.creek.specs.Calls.{Replica}
 use Rattle.creek.specs.Showing.{requestsShown, commitsShown, undosShown}
-use Rattle.creek.specs.Sound.{mostRequests, WithinBound, Sound}
+use Rattle.creek.specs.internal.Sound.{mostRequests, WithinBound, Sound}
 use Rattle.creek.specs.Demand.{mostUndos}
 
 -- n(n−1)/2 by addition

@@ -21,10 +21,10 @@ use Rattle.creek.specs.Calls.{badShop, freshRefusal, fresh, accept, step
 use Rattle.creek.specs.History.{run, afterDueSteps}
 use Rattle.creek.specs.Showing.{registerShown}
 use Rattle.creek.specs.Demand.{mostUndos}
-use Rattle.creek.specs.Examples.{Case, onRegisters, onBoard, answers, spreads, eventsAndClocks, numbers, driven}
-use Rattle.creek.specs.Cases.{standing, worked, afterWorked, nineNineEight, cases}
-use Rattle.creek.specs.Faults.{strongHeard, twiceChanged, overtaken, falling, overtaking, faults, reaching}
-use Rattle.creek.specs.Readings.{madeAndHeard, readings, sumAfter, moveReadings}
+use Rattle.creek.specs.examples.Notation.{Case, onRegisters, onBoard, answers, spreads, eventsAndClocks, numbers, driven}
+use Rattle.creek.specs.examples.Cases.{standing, worked, afterWorked, nineNineEight, cases}
+use Rattle.creek.specs.examples.Faults.{strongHeard, twiceChanged, overtaken, falling, overtaking, faults, reaching}
+use Rattle.creek.specs.examples.Readings.{madeAndHeard, readings, sumAfter, moveReadings}
 
 pub edge-cases : map (λ (c : Case). c .computed) cases ≡ map (λ (c : Case). c .said) cases
 unfolding cases standing worked afterWorked nineNineEight onRegisters onBoard answers spreads eventsAndClocks numbers driven

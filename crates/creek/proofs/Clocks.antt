@@ -31,7 +31,7 @@ use Rattle.creek.specs.Book.{Call, invoke, deliver, commit, undo, execut
 use Rattle.creek.specs.Calls.{Replica, badShop, freshRefusal, fresh, accept, step}
 use Rattle.creek.specs.History.{run}
 use Rattle.creek.specs.Showing.{noPlace, registerRefusal, placeRefusal}
-use Rattle.creek.specs.Sound.{ownBeyond, SoundPlan, Sound}
+use Rattle.creek.specs.internal.Sound.{ownBeyond, SoundPlan, Sound}
 use Rattle.creek.specs.Clocks.{ClockTaken, GoesThrough, OwnHeld, InEventOrder, SoundClocks, NeverClockBack}
 use Rattle.creek.proofs.AcceptanceLaws.{New, made-new, heard-new, commits}
 use Rattle.creek.proofs.LookupLaws.{held-entered, lastClock-made, not-own, lastClock-heard, held-committing}

@@ -19,7 +19,7 @@ use Rattle.sets.proofs.SetLaws.{subset-member}
 use Rattle.lists.specs.Lists.{count, keep, find}
 use Rattle.creek.specs.Plan.{Plan, order, hasNumber, held}
 use Rattle.creek.specs.Plan.{named, stays, committing}
-use Rattle.creek.specs.Sound.{isBad, Held, unknown, knownAgainstStrength, SoundPlan}
+use Rattle.creek.specs.internal.Sound.{isBad, Held, unknown, knownAgainstStrength, SoundPlan}
 use Rattle.lists.proofs.ListLaws.{one-true, one-false, count-append, count-never, count-weaker, counts-length}
 use Rattle.lists.proofs.ListLaws.{count-keep, count-split, keep-found, found-counts}
 use Rattle.lists.proofs.ListLaws.{found-not, keep-ordered}

@@ -12,7 +12,7 @@ use Rattle.creek.specs.Book.{Call, invoke, deliver, commit, undo, execut
 use Rattle.creek.specs.Calls.{Replica, replicaOf, badShop, fresh, bringsRequest, isCommit, isUndo, isExecute, accept, step}
 use Rattle.creek.specs.History.{run, acceptedIn}
 use Rattle.creek.specs.Showing.{requestsShown, commitsShown, undosShown, executionsShown}
-use Rattle.creek.specs.Sound.{Sound}
+use Rattle.creek.specs.internal.Sound.{Sound}
 use Rattle.creek.specs.Demand.{Demand3}
 use Rattle.creek.proofs.CallLaws.{by-outcome, step-book}
 use Rattle.creek.proofs.AcceptanceLaws.{commits}

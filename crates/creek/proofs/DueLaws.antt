@@ -18,7 +18,7 @@ use Rattle.creek.specs.Book.{Call, undo, execute, Book, refusal, isAccep
 use Rattle.creek.specs.Calls.{Replica, accept, step}
 use Rattle.creek.specs.History.{run, dueCall, afterDueSteps, idled, dueCalls}
 use Rattle.creek.specs.Showing.{undosShown, executionsShown, owedShown}
-use Rattle.creek.specs.Sound.{Sound}
+use Rattle.creek.specs.internal.Sound.{Sound}
 use Rattle.creek.proofs.CallLaws.{step-accepted, step-book}
 use Rattle.creek.proofs.ExecutionLaws.{undone-todo, undone-rollback, executed-rollback, executes, undo-due}
 use Rattle.creek.proofs.ExecutionLaws.{execute-due, idle-owed, busy-owed, idle-board}

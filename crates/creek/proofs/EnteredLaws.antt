@@ -15,7 +15,7 @@ use Rattle.numbers.proofs.NumberLaws.{good-number, sameNumber-self}
 use Rattle.request.proofs.OrderLaws.{before-transitive, before-total}
 use Rattle.lists.specs.Lists.{one, count, Ordered}
 use Rattle.creek.specs.Plan.{Plan, order, hasNumber, held, knownWith, placed, entered}
-use Rattle.creek.specs.Sound.{Held, unknown, knownAgainstStrength, SoundPlan}
+use Rattle.creek.specs.internal.Sound.{Held, unknown, knownAgainstStrength, SoundPlan}
 use Rattle.lists.proofs.ListLaws.{one-true, one-false, count-append, count-implies, count-weaker, counts-length}
 use Rattle.lists.proofs.ListLaws.{count-insert, insert-ordered}
 use Rattle.creek.proofs.HeldLaws.{good-request, widened, held-moved, held-known, held-more}

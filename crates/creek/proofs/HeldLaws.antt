@@ -20,7 +20,7 @@ use Rattle.numbers.proofs.NumberLaws.{good-number, sameNumber-sound, sameNumber
 use Rattle.sets.proofs.SetLaws.{member-join, join-length}
 use Rattle.lists.specs.Lists.{one, count}
 use Rattle.creek.specs.Plan.{hasNumber, isOf}
-use Rattle.creek.specs.Sound.{mostRequests, isBad, ownBeyond, Held}
+use Rattle.creek.specs.internal.Sound.{mostRequests, isBad, ownBeyond, Held}
 use Rattle.lists.proofs.ListLaws.{one-true, one-false, count-implies, count-weaker, count-all, pigeonhole}
 use Rattle.sets.proofs.PanelLaws.{namesFrom-join}
 

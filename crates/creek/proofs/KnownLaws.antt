@@ -12,7 +12,7 @@ use Rattle.lists.proofs.BoolLaws.{true-not-false}
 use Rattle.numbers.proofs.NumberLaws.{sameNumber-self}
 use Rattle.sets.proofs.SetLaws.{member-join}
 use Rattle.creek.specs.Plan.{hasNumber}
-use Rattle.creek.specs.Sound.{unknown}
+use Rattle.creek.specs.internal.Sound.{unknown}
 
 -- a set with n, seen from a request of another number and from one of that number
 module _ (known : Context) (n : Number) (words : length (known .words) ≡ mostPanels) (good : GoodNumber mostPanels n) where

@@ -18,7 +18,7 @@ use Rattle.creek.specs.declared.Invocation.{Invocation}
 use Rattle.lists.specs.Lists.{one, someIf, find}
 use Rattle.creek.specs.Plan.{Plan, order, hasNumber, held, isOf, lastEvent, clockOf, lastClock, entered, nextNumber, atLeast, made}
 use Rattle.creek.specs.Plan.{committing, invokeRefusal, deliverRefusal}
-use Rattle.creek.specs.Sound.{SoundPlan}
+use Rattle.creek.specs.internal.Sound.{SoundPlan}
 use Rattle.lists.proofs.ListLaws.{one-true, one-false, find-moved}
 use Rattle.creek.proofs.AcceptanceLaws.{passed, New, made-new, heard-new}
 use Rattle.creek.proofs.EnteredLaws.{entered-count, entered-sound}

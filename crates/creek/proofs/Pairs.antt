@@ -23,11 +23,11 @@ use Rattle.creek.specs.Replies.{namedByRefusal, answerOf, acceptedAwaiti
 use Rattle.creek.specs.Calls.{badShop, fresh, accept, step}
 use Rattle.creek.specs.History.{run, afterDueSteps}
 use Rattle.creek.specs.Showing.{registerShown}
-use Rattle.creek.specs.Examples.{Case, answers, numbers, driven}
+use Rattle.creek.specs.examples.Notation.{Case, answers, numbers, driven}
 use Rattle.creek.specs.Agreement.{inClockOrder, committingInTurn, standingOrder, SameRequests, gathered}
 use Rattle.creek.specs.Agreement.{History, replicaAfter}
-use Rattle.creek.specs.Pairs.{placesIn, strongZero, weakOne, spreadByZero, zeroFirst, oneFirst, clockFour, clockSix, pairs}
-use Rattle.creek.specs.Pairs.{SuppositionsMet, DifferentOrders, SuppositionsNeeded}
+use Rattle.creek.specs.examples.Pairs.{placesIn, strongZero, weakOne, spreadByZero, zeroFirst, oneFirst, clockFour, clockSix, pairs}
+use Rattle.creek.specs.examples.Pairs.{SuppositionsMet, DifferentOrders, SuppositionsNeeded}
 
 pub pairs-told : map (λ (c : Case). c .computed) pairs ≡ map (λ (c : Case). c .said) pairs
 unfolding pairs placesIn answers numbers driven sameNumber badNumber sameOperation badOperation sameAsked badAsked sameWords sameContext

@@ -22,7 +22,7 @@ use Rattle.creek.specs.Replies.{noMark, executionMark, executionReply}
 use Rattle.creek.specs.Replies.{stableReplyDue, settlementReply, undoReply, acceptedAnswer}
 use Rattle.creek.specs.Replies.{acceptedAwaiting}
 use Rattle.creek.specs.Calls.{Replica, accept}
-use Rattle.creek.specs.Sound.{Sound}
+use Rattle.creek.specs.internal.Sound.{Sound}
 use Rattle.creek.specs.StableReply.{repliedTo}
 use Rattle.creek.proofs.AwaitingLaws.{awaiting-less}
 use Rattle.creek.proofs.HeldLaws.{good-request, widened}

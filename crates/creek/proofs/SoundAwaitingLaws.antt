@@ -23,8 +23,8 @@ use Rattle.creek.specs.Replies.{acceptedAnswer, endsWaiting}
 use Rattle.creek.specs.Replies.{awaitingAfter, acceptedAwaiting}
 use Rattle.creek.specs.Calls.{Replica, badShop, replicaOf, fresh, accept, step}
 use Rattle.creek.specs.History.{run}
-use Rattle.creek.specs.Sound.{Sound}
-use Rattle.creek.specs.Waiting.{strongUnawaited, SoundAwaiting}
+use Rattle.creek.specs.internal.Sound.{Sound}
+use Rattle.creek.specs.internal.SoundAwaiting.{strongUnawaited, SoundAwaiting}
 use Rattle.creek.proofs.AwaitingLaws.{leave-other, awaiting-length, awaiting-other}
 use Rattle.lists.proofs.ListLaws.{one-true, one-false, count-append, count-implies, count-either, count-weaker, passes-count}
 use Rattle.creek.proofs.CallLaws.{by-outcome}

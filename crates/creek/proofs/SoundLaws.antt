@@ -22,7 +22,7 @@ use Rattle.creek.specs.Execution.{Execution, nothingExecuted, adjusted, 
 use Rattle.creek.specs.Book.{Call, invoke, deliver, commit, undo, execute, Book, emptyBook, planned, refusal, accepted}
 use Rattle.creek.specs.Calls.{Replica, badShop, replicaOf, fresh, accept, step}
 use Rattle.creek.specs.History.{run}
-use Rattle.creek.specs.Sound.{SoundPlan, WithinBound, SoundBook, Sound}
+use Rattle.creek.specs.internal.Sound.{SoundPlan, WithinBound, SoundBook, Sound}
 use Rattle.creek.proofs.CallLaws.{by-outcome}
 use Rattle.lists.proofs.ListLaws.{count-append, count-most}
 use Rattle.sets.proofs.PanelLaws.{namesFrom-empty}

@@ -27,7 +27,7 @@ use Rattle.creek.specs.Replies.{noMark, weakMark, tentativeMark, stableM
 use Rattle.creek.specs.Replies.{executionReply, stableReplyDue, settlementReply, undoReply, acceptedAnswer}
 use Rattle.creek.specs.Calls.{Replica, fresh, isExecute, accept, step, answer}
 use Rattle.creek.specs.History.{run}
-use Rattle.creek.specs.Sound.{Sound}
+use Rattle.creek.specs.internal.Sound.{Sound}
 use Rattle.creek.specs.Agreement.{Extends}
 use Rattle.creek.specs.StableReply.{repliedTo, carriesOut, lastResponse, StableReply, LastCarryOut}
 use Rattle.creek.proofs.CallLaws.{by-outcome}

@@ -10,7 +10,7 @@ use Rattle.request.specs.declared.Request.{Request}
 use Rattle.request.specs.Request.{sameRequest}
 use Rattle.lists.specs.Lists.{commonStart}
 use Rattle.creek.specs.Execution.{Execution, board, adjusted, undone, executedNext}
-use Rattle.creek.specs.Stack.{stacked}
+use Rattle.creek.specs.internal.Stack.{stacked}
 use Rattle.lists.proofs.ListLaws.{commonStart-most}
 use Rattle.creek.proofs.ExecutionLaws.{board-executed}
 

@@ -20,9 +20,10 @@ use Rattle.creek.specs.Replies.{undoReply, acceptedAnswer, answerOf, end
 use Rattle.creek.specs.Replies.{acceptedAwaiting}
 use Rattle.creek.specs.Calls.{Replica, fresh, accept, step, answer}
 use Rattle.creek.specs.History.{run}
-use Rattle.creek.specs.Sound.{Sound}
+use Rattle.creek.specs.internal.Sound.{Sound}
 use Rattle.creek.specs.StableReply.{repliedTo}
-use Rattle.creek.specs.Waiting.{LastReply, TentativeReply, strongUnawaited, SoundAwaiting}
+use Rattle.creek.specs.Waiting.{LastReply, TentativeReply}
+use Rattle.creek.specs.internal.SoundAwaiting.{strongUnawaited, SoundAwaiting}
 use Rattle.creek.proofs.AwaitingLaws.{awaiting-ends}
 use Rattle.lists.proofs.ListLaws.{one-true, count-append, count-weaker}
 use Rattle.creek.proofs.CallLaws.{by-outcome}

@@ -1,4 +1,4 @@
--- What is to be believed of the protocol, from lists to demand 3; then what else is claimed of it; then examples.
+-- What is to be believed of the protocol, from lists to demand 3; then what else is claimed of it; then what only proofs cite, and examples.
 pub mod Plan
 pub mod Execution
 pub mod Book
@@ -6,16 +6,11 @@ pub mod Replies
 pub mod Calls
 pub mod History
 pub mod Showing
-pub mod Sound
 pub mod Demand
 pub mod StableReply
 pub mod Waiting
 pub mod Clocks
 pub mod Moves
 pub mod Agreement
-pub mod Stack
-pub mod Examples
-pub mod Cases
-pub mod Faults
-pub mod Readings
-pub mod Pairs
+pub mod internal
+pub mod examples

@@ -11,7 +11,8 @@ use Rattle.creek.specs.Calls.{Replica}
 use Rattle.counters.specs.declared.Counters.{Counters}
 use Rattle.replica.specs.declared.Core.{Core}
 use Rattle.replica.specs.State.{State, Opened}
-use Rattle.replica.specs.Model.{model, Fresh}
+use Rattle.replica.specs.Promises.{Fresh}
+use Rattle.replica.specs.internal.Model.{model}
 use Rattle.encoding.specs.Encoding.{panelsOf, ownOf, callsAt, callCount, entriesOf, answerSize, answersBytes}
 use Rattle.encoding.specs.Encoding.{runEntries, freshOf, tight, entriesRun, RanAll}
 use Rattle.driver.specs.declared.RunResult.{RunResult}

@@ -10,7 +10,7 @@ use Rattle.text.proofs.PlacedLaws.{Left, left-start, left-room, left-step, left
 use Rattle.creek.specs.declared.Answer.{Answer}
 use Rattle.creek.specs.Calls.{Replica}
 use Rattle.replica.specs.State.{State, Called}
-use Rattle.replica.specs.Model.{Inv, model}
+use Rattle.replica.specs.internal.Model.{Inv, model}
 use Rattle.encoding.specs.Encoding.{callsAt, callSize, Entry, entryAt, entriesFrom, callCount, entriesOf}
 use Rattle.encoding.specs.Encoding.{after, answerTo, runEntries, Done, answerBytes, answersBytes, RanAll}
 

@@ -4,9 +4,10 @@ use mathlib.Core.List.{List}
 use Rattle.replica.specs.declared.Core.{Core}
 use Rattle.replica.specs.declared.CallResult.{CallResult}
 use Rattle.replica.specs.State.{State, Called, packed}
-use Rattle.replica.specs.Model.{Inv, Kept}
+use Rattle.replica.specs.Promises.{Kept}
+use Rattle.replica.specs.internal.Model.{Inv}
 use Rattle.wire.specs.declared.Message.{Message}
-use Rattle.intake.specs.Intake.{takeParts}
+use Rattle.intake.specs.internal.Parts.{takeParts}
 use Rattle.encoding.specs.Encoding.{messageCall}
 use Rattle.counting.specs.declared.EntryResult.{EntryResult}
 

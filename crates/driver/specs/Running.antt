@@ -8,7 +8,7 @@ use lib.Seq.{sets}
 use Rattle.creek.specs.Calls.{freshRefusal}
 use Rattle.creek.specs.History.{run}
 use Rattle.replica.specs.State.{State}
-use Rattle.replica.specs.Model.{Inv, model}
+use Rattle.replica.specs.internal.Model.{Inv, model}
 use Rattle.encoding.specs.Encoding.{panelsOf, ownOf, runEntries, callsOf, freshOf, tight, entriesRun, answersBytes}
 use Rattle.driver.specs.declared.RunResult.{RunResult}
 

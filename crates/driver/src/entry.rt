@@ -8,9 +8,9 @@ use wire::Message;
 ghost use Prim.Native.Nat.{_<_};
 ghost use lib.ListN.{length};
 ghost use Rattle.replica.specs.State.{packed};
-ghost use Rattle.replica.specs.Model.{Inv};
+ghost use Rattle.replica.specs.internal.Model.{Inv};
 ghost use Rattle.encoding.specs.Encoding.{entryAt, Done};
-ghost use Rattle.intake.specs.Intake.{TakeAsks};
+ghost use Rattle.intake.specs.internal.Parts.{TakeAsks};
 ghost use Rattle.driver.specs.Parts.{leadsTo, MessageKept};
 
 // What a place asks for, carried out on the panel.

@@ -12,7 +12,7 @@ use replica::Core;
 ghost use mathlib.Core.Path.{_≡_};
 ghost use Rattle.text.specs.Placed.{Room};
 ghost use Rattle.replica.specs.State.{packed};
-ghost use Rattle.replica.specs.Model.{Inv, model};
+ghost use Rattle.replica.specs.internal.Model.{Inv, model};
 ghost use Rattle.encoding.specs.Encoding.{callCount, entriesOf, answersBytes, RanAll};
 ghost use Rattle.driver.specs.Running.{RanList};
 

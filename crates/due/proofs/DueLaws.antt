@@ -31,8 +31,10 @@ use Rattle.counters.specs.declared.Counters.{Counters}
 use Rattle.steps.specs.declared.DueReply.{DueReply}
 use Rattle.replica.specs.State.{State, Called}
 use Rattle.store.specs.Requests.{askedIn, requestAt}
-use Rattle.replica.specs.Model.{orderOf, planOf, bookOf, model, savedAt, Inv, Kept}
-use Rattle.due.specs.Due.{DueOutcome, noReply, replyIn, isAwaited, dueReplies, mostReplies, padded, repliesOwed, RunDue, SameJob, RolledBack, ExecutedAll}
+use Rattle.replica.specs.Promises.{Kept}
+use Rattle.replica.specs.internal.Model.{orderOf, planOf, bookOf, model, savedAt, Inv}
+use Rattle.due.specs.Due.{DueOutcome, noReply, replyIn, isAwaited, dueReplies, mostReplies, padded, repliesOwed, RunDue}
+use Rattle.due.specs.internal.Parts.{SameJob, RolledBack, ExecutedAll}
 use Rattle.replica.proofs.States.{undoneState, executedState}
 use Rattle.replica.proofs.ModelLaws.{requestOf, topSlot, nextSlot, order-planned, plan-sound, length-order, rollback-first, rollback-none, rollback-length, todo-length, order-next}
 use Rattle.steps.proofs.UndoLaws.{undo-kept}

@@ -10,10 +10,12 @@ use Rattle.creek.specs.Replies.{noMark}
 use Rattle.replica.specs.declared.Core.{Core}
 use Rattle.steps.specs.declared.DueReply.{DueReply}
 use Rattle.due.specs.declared.DueResult.{DueResult}
-use Rattle.replica.specs.State.{State, withBoard}
-use Rattle.replica.specs.Model.{Inv}
+use Rattle.replica.specs.State.{State}
+use Rattle.replica.specs.internal.Cores.{withBoard}
+use Rattle.replica.specs.internal.Model.{Inv}
 use Rattle.steps.specs.Steps.{undoParts, UndoAsks, TopAsks, TakenOff, executeParts, ExecuteAsks}
-use Rattle.due.specs.Due.{DueOutcome, noReply, mostReplies, ranParts, RunDue, RolledBack, ExecutedAll, AllUndone, AllExecuted, DueKept}
+use Rattle.due.specs.Due.{DueOutcome, noReply, mostReplies, RunDue}
+use Rattle.due.specs.internal.Parts.{ranParts, RolledBack, ExecutedAll, AllUndone, AllExecuted, DueKept}
 use Rattle.replica.proofs.ModelLaws.{top-slot, next-slot}
 use Rattle.steps.proofs.ExecuteLaws.{NextReply}
 use Rattle.steps.proofs.StepParts.{none-undone, none-executed, NextAsks, Next}

@@ -14,7 +14,7 @@ use Rattle.request.specs.declared.Request.{Request}
 use Rattle.numbers.specs.Numbers.{numbered, mostEvents, GoodNumber}
 use Rattle.numbers.proofs.NumberLaws.{good-number, sameNumber-of}
 use Rattle.creek.specs.Plan.{isOf, hasNumber}
-use Rattle.creek.specs.Sound.{isBad, Held}
+use Rattle.creek.specs.internal.Sound.{isBad, Held}
 use Rattle.creek.proofs.HeldLaws.{good-request}
 
 -- ---- for the crate below

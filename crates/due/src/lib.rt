@@ -5,7 +5,8 @@ use replica::Core;
 use steps::DueReply;
 ghost use mathlib.Core.Path.{_≡_};
 ghost use Rattle.steps.specs.Steps.{UndoAsks, ExecuteAsks};
-ghost use Rattle.due.specs.Due.{noReply, AllUndone, AllExecuted, DueKept};
+ghost use Rattle.due.specs.Due.{noReply};
+ghost use Rattle.due.specs.internal.Parts.{AllUndone, AllExecuted, DueKept};
 
 // What all due steps were: how many undos and executions, and the replies that fell due, of which there are `count`.
 #[repr(C)]

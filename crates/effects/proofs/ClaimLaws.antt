@@ -12,7 +12,8 @@ use borrow.Author.Tests.{eqb-true, eqb-false, not-true, le-ltb}
 use Rattle.lists.proofs.BoolLaws.{both-true, neither-true}
 use Rattle.request.specs.declared.Operation.{Operation}
 use Rattle.request.specs.Operations.{codeClaimAll, lastRegister, mostClaimed, span, badOperation}
-use Rattle.effects.specs.Effect.{offBoard, lowestHeld, allSet, exec, response, Executed, ClaimOnBoard}
+use Rattle.effects.specs.Effect.{offBoard, lowestHeld, allSet, exec, response, Executed}
+use Rattle.effects.specs.internal.OnBoard.{ClaimOnBoard}
 use Rattle.effects.specs.Claims.{claimAll, plainClaim, Among, SameAsPlainClaim, TakesAllOrNone, goodClaim, NeverOneEach}
 use Rattle.effects.proofs.SpanLaws.{held-one, all-zero, none-held, lowest-held, set-inside}
 use Rattle.effects.proofs.TouchedLaws.{untouched-outside}

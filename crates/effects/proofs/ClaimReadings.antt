@@ -1,8 +1,8 @@
--- Each reading of `specs/ClaimReadings` is what the definitions compute.
+-- Each reading of `specs/examples/ClaimReadings` is what the definitions compute.
 use mathlib.Core.Path.{refl}
 use Rattle.request.specs.Operations.{badOperation}
 use Rattle.effects.specs.Effect.{offBoard, firstHeld, lowestHeld, allSet, allClaimed, allClaimedResponse, exec, response}
-use Rattle.effects.specs.ClaimReadings.{ClaimReadings}
+use Rattle.effects.specs.examples.ClaimReadings.{ClaimReadings}
 
 pub claim-readings-told : ClaimReadings
 unfolding badOperation offBoard firstHeld lowestHeld allSet allClaimed allClaimedResponse exec response

@@ -14,7 +14,8 @@ use Rattle.lists.proofs.BoolLaws.{both-true, neither-true}
 use Rattle.lists.proofs.AllLaws.{all-take}
 use Rattle.request.specs.declared.Operation.{Operation}
 use Rattle.request.specs.Operations.{codeMove, lastRegister, badOperation}
-use Rattle.effects.specs.Effect.{offBoard, amountMoved, moved, exec, MoveOnBoard}
+use Rattle.effects.specs.Effect.{offBoard, amountMoved, moved, exec}
+use Rattle.effects.specs.internal.OnBoard.{MoveOnBoard}
 use Rattle.effects.specs.Replay.{replayOn}
 use Rattle.effects.specs.Moves.{goodMove, GoodMoves, sum, SumNeverChanges}
 use Rattle.effects.proofs.AmountLaws.{least-of-three}

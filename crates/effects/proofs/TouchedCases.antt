@@ -1,8 +1,8 @@
--- Each case of `specs/TouchedCases` is what the definition computes.
+-- Each case of `specs/examples/TouchedCases` is what the definition computes.
 use mathlib.Core.Path.{refl}
 use Rattle.effects.specs.Effect.{offBoard}
 use Rattle.effects.specs.Touched.{registersFrom, touched}
-use Rattle.effects.specs.TouchedCases.{TouchedCases}
+use Rattle.effects.specs.examples.TouchedCases.{TouchedCases}
 
 pub touched-cases : TouchedCases
 unfolding offBoard registersFrom touched

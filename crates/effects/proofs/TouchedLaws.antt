@@ -8,7 +8,8 @@ use mathlib.Core.Bool.{true}
 use mathlib.Core.List.{[]}
 use Rattle.request.specs.declared.Operation.{Operation}
 use Rattle.request.specs.Operations.{span}
-use Rattle.effects.specs.Effect.{offBoard, ClaimOnBoard}
+use Rattle.effects.specs.Effect.{offBoard}
+use Rattle.effects.specs.internal.OnBoard.{ClaimOnBoard}
 use Rattle.effects.specs.Touched.{registersFrom, touched, Untouched}
 use Rattle.effects.proofs.SpanLaws.{all-from}
 

@@ -10,7 +10,8 @@ use lib.ListN.{length, getD}
 use lib.Dec.{eqb}
 use Rattle.request.specs.declared.Operation.{Operation}
 use Rattle.request.specs.Operations.{codeClaim, codeClaimAll, lastRegister, badOperation}
-use Rattle.effects.specs.Effect.{exec, response, ClaimOnBoard}
+use Rattle.effects.specs.Effect.{exec, response}
+use Rattle.effects.specs.internal.OnBoard.{ClaimOnBoard}
 
 -- claim registers r to q for v
 abbrev pub claimAll : (r q v : ℕ) → Operation

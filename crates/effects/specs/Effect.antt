@@ -2,7 +2,7 @@
 -- and by its request (g), which adds the claim of registers r to q together.
 use Prim.Native.Nat.{ℕ, zero, suc, _+_, _-_, _%_, _^_, min}
 use mathlib.Core.Path.{_≡_}
-use mathlib.Core.Bool.{Bool, false, _||_, cond}
+use mathlib.Core.Bool.{Bool, _||_, cond}
 use mathlib.Core.List.{List}
 use lib.ListN.{getD, set, replicate}
 use lib.Seq.{sets}
@@ -86,13 +86,3 @@ response o b =
 pub record Executed (o : Operation) (b b′ : List ℕ) (x : ℕ) : Type 0 where
   pub effect : b′ ≡ exec o b
   pub response : x ≡ response o b
-
--- o is a move between registers on the board
-pub record MoveOnBoard (o : Operation) : Type 0 where
-  pub on : offBoard o ≡ false
-  pub code : o .code ≡ codeMove
-
--- o is a claim of registers together, all of them on the board
-pub record ClaimOnBoard (o : Operation) : Type 0 where
-  pub on : offBoard o ≡ false
-  pub code : o .code ≡ codeClaimAll

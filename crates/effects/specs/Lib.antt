@@ -5,5 +5,5 @@ pub mod Touched
 pub mod Replay
 pub mod Moves
 pub mod Claims
-pub mod ClaimReadings
-pub mod TouchedCases
+pub mod internal
+pub mod examples

@@ -7,7 +7,7 @@ use borrow.Author.Tests.{eq-eqb, ne-eqb}
 use Rattle.creek.specs.declared.Invocation.{Invocation}
 use Rattle.creek.specs.Book.{invoke, undo, execute}
 use Rattle.replica.specs.State.{State, Called}
-use Rattle.replica.specs.Model.{Kept}
+use Rattle.replica.specs.Promises.{Kept}
 use Rattle.wire.specs.declared.Message.{Message}
 use Rattle.wire.specs.declared.Reading.{Reading}
 use Rattle.wire.specs.Message.{said}

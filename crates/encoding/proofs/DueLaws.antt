@@ -7,11 +7,12 @@ use lib.ListN.{getD}
 use borrow.Author.Tests.{eq-eqb, ne-eqb}
 use Rattle.numbers.specs.Numbers.{noNumber}
 use Rattle.creek.specs.Replies.{noMark, reply}
-use Rattle.creek.specs.Sound.{mostRequests}
+use Rattle.creek.specs.internal.Sound.{mostRequests}
 use Rattle.creek.specs.Showing.{owedShown}
 use Rattle.replica.specs.State.{State, Called}
 use Rattle.due.specs.Due.{DueOutcome}
-use Rattle.replica.specs.Model.{Inv, model, Kept}
+use Rattle.replica.specs.Promises.{Kept}
+use Rattle.replica.specs.internal.Model.{Inv, model}
 use Rattle.due.specs.Due.{RunDue}
 use Rattle.replica.proofs.ShowingLaws.{owed-are}
 use Rattle.encoding.specs.Encoding.{allDueTag, callAt, one, allDue, entryAt, after, answerTo, Done}

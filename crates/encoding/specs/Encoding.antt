@@ -16,7 +16,7 @@ use Rattle.creek.specs.Calls.{Replica, fresh, step, answer}
 use Rattle.creek.specs.History.{idled, dueCalls}
 use Rattle.creek.specs.Showing.{owedShown}
 use Rattle.replica.specs.State.{State, Called}
-use Rattle.replica.specs.Model.{Inv, model}
+use Rattle.replica.specs.internal.Model.{Inv, model}
 use Rattle.wire.specs.declared.Message.{Message}
 use Rattle.wire.specs.Integers.{integerBytes}
 use Rattle.wire.specs.Layout.{longestMessage}

@@ -20,7 +20,8 @@ use Rattle.creek.proofs.AcceptanceLaws.{passed, heard-new}
 use Rattle.creek.proofs.LookupLaws.{lastEvent-heard, lastClock-heard}
 use Rattle.replica.specs.State.{State}
 use Rattle.store.specs.Requests.{requestAt}
-use Rattle.replica.specs.Model.{planOf, bookOf, model, Inv, Kept}
+use Rattle.replica.specs.Promises.{Kept}
+use Rattle.replica.specs.internal.Model.{planOf, bookOf, model, Inv}
 use Rattle.entering.specs.Entering.{judged, Enters, OwnSoFar, Entered}
 use Rattle.replica.proofs.ModelLaws.{plan-sound}
 use Rattle.replica.proofs.RequestLaws.{held-some, held-none}

@@ -32,15 +32,15 @@ use Rattle.slots.specs.Insertion.{PlaceAsks, InsertionAsks, Inserted}
 use Rattle.slots.proofs.SlotLaws.{part-of, same-slot, comes-before-order, common-from}
 use Rattle.creek.specs.Plan.{Plan, order, hasNumber, knownWith, entered}
 use Rattle.creek.specs.Execution.{adjusted}
-use Rattle.creek.specs.Stack.{stacked}
+use Rattle.creek.specs.internal.Stack.{stacked}
 use Rattle.creek.specs.Book.{planned}
-use Rattle.creek.specs.Sound.{Sound}
+use Rattle.creek.specs.internal.Sound.{Sound}
 use Rattle.creek.proofs.StackLaws.{stacked-board, stacked-adjusted}
 use Rattle.replica.specs.State.{State}
 use Rattle.store.specs.Requests.{requestAt, Stored}
 use Rattle.store.proofs.RequestLaws.{stored-other, stored-long}
-use Rattle.replica.specs.Model.{orderSlots, boardSlots, orderOf, boardOf, planOf, bookOf, model}
-use Rattle.replica.specs.Model.{Counts, Lengths, Log, Inv}
+use Rattle.replica.specs.internal.Model.{orderSlots, boardSlots, orderOf, boardOf, planOf, bookOf, model}
+use Rattle.replica.specs.internal.Model.{Counts, Lengths, Log, Inv}
 use Rattle.entering.specs.Entering.{Enters, OwnSoFar, Entered}
 use Rattle.replica.proofs.ModelLaws.{order-planned, plan-sound, length-order-slots, length-order, order-slot, executed-asks, executed-follows}
 use Rattle.replica.proofs.RequestLaws.{tentativeSlots, same-request, count-held}

@@ -12,7 +12,7 @@ use Rattle.creek.proofs.HeldLaws.{good-request, widened, held-few}
 use Rattle.creek.proofs.AcceptanceLaws.{New}
 use Rattle.creek.proofs.EnteredLaws.{entered-length, entered-sound}
 use Rattle.replica.specs.State.{State}
-use Rattle.replica.specs.Model.{planOf, Inv}
+use Rattle.replica.specs.internal.Model.{planOf, Inv}
 use Rattle.entering.specs.Entering.{Enters}
 use Rattle.replica.proofs.ModelLaws.{plan-sound, order-planned, length-order}
 use Rattle.replica.proofs.RequestLaws.{count-held}

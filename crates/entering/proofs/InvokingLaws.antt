@@ -34,7 +34,8 @@ use Rattle.creek.proofs.AcceptanceLaws.{passed, made-new}
 use Rattle.creek.proofs.LookupLaws.{lastEvent-made, lastClock-made}
 use Rattle.replica.specs.State.{State}
 use Rattle.store.specs.Requests.{requestAt}
-use Rattle.replica.specs.Model.{orderSlots, planOf, bookOf, model, Inv, Kept}
+use Rattle.replica.specs.Promises.{Kept}
+use Rattle.replica.specs.internal.Model.{orderSlots, planOf, bookOf, model, Inv}
 use Rattle.entering.specs.Entering.{InvokeRefused, contextFor, requestFor, Enters, OwnSoFar, Entered}
 use Rattle.replica.proofs.ModelLaws.{plan-sound}
 use Rattle.replica.proofs.RequestLaws.{tentativeSlots}

@@ -17,11 +17,13 @@ use Rattle.creek.specs.declared.Invocation.{Invocation}
 use Rattle.creek.specs.Plan.{Plan, emptyPlan, entered, lastEvent, lastClock, invokeRefusal, deliverRefusal}
 use Rattle.creek.specs.Book.{invoke, deliver, planned}
 use Rattle.counters.specs.Counted.{counted}
-use Rattle.creek.specs.Sound.{Sound, mostRequests}
+use Rattle.creek.specs.internal.Sound.{Sound, mostRequests}
 use Rattle.replica.specs.declared.Core.{Core}
 use Rattle.replica.specs.declared.CallResult.{CallResult}
-use Rattle.replica.specs.State.{State, packed, withEntered}
-use Rattle.replica.specs.Model.{planOf, bookOf, model, Inv, Kept}
+use Rattle.replica.specs.State.{State, packed}
+use Rattle.replica.specs.internal.Cores.{withEntered}
+use Rattle.replica.specs.Promises.{Kept}
+use Rattle.replica.specs.internal.Model.{planOf, bookOf, model, Inv}
 
 -- ---- what is asked of a request that is made
 

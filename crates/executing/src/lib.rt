@@ -7,7 +7,8 @@ use request::operations;
 ghost use Prim.Native.Nat.{_+_, _-_, min};
 ghost use mathlib.Core.Path.{_≡_};
 ghost use mathlib.Core.Bool.{false};
-ghost use Rattle.effects.specs.Effect.{range, offBoard, lowestHeld, allSet, MoveOnBoard, ClaimOnBoard, Executed};
+ghost use Rattle.effects.specs.Effect.{range, offBoard, lowestHeld, allSet, Executed};
+ghost use Rattle.effects.specs.internal.OnBoard.{MoveOnBoard, ClaimOnBoard};
 
 // Executes o on the registers, and returns its response.
 pub fn execute(registers: &mut [u32; 64], o: Operation) -> u32

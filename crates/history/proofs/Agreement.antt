@@ -14,7 +14,7 @@ use Rattle.creek.proofs.Agreement.{grows-at-end, side-by-side}
 use Rattle.due.specs.Due.{DueOutcome, RunDue}
 use Rattle.replica.specs.declared.RegisterValue.{RegisterValue}
 use Rattle.replica.specs.declared.PlacedRequest.{PlacedRequest}
-use Rattle.replica.specs.Model.{model}
+use Rattle.replica.specs.internal.Model.{model}
 use Rattle.replica.specs.Shown.{RegisterShown, PlaceShown}
 use Rattle.history.specs.History.{stay}
 use Rattle.history.specs.PanelHistory.{PanelHistory, historyOf}

@@ -13,7 +13,7 @@ use Rattle.creek.specs.Calls.{Replica, step, answer}
 use Rattle.creek.proofs.Clocks.{in-event-order, never-clock-back}
 use Rattle.creek.specs.History.{answersTo, refusalsIn}
 use Rattle.replica.specs.State.{State, Opened}
-use Rattle.replica.specs.Model.{Fresh}
+use Rattle.replica.specs.Promises.{Fresh}
 use Rattle.history.specs.History.{Leads}
 use Rattle.history.specs.Clocks.{isClockBack, PanelClocks}
 use Rattle.history.proofs.History.{panel-replica, panel-demand-3}

@@ -24,7 +24,8 @@ use Rattle.creek.proofs.Demand.{demand-3}
 use Rattle.replica.specs.State.{State, Opened}
 use Rattle.due.specs.Due.{DueOutcome, noReply, replyIn, isAwaited, dueReplies, mostReplies, repliesOwed, RunDue}
 use Rattle.steps.specs.declared.DueReply.{DueReply}
-use Rattle.replica.specs.Model.{model, Inv, Fresh}
+use Rattle.replica.specs.Promises.{Fresh}
+use Rattle.replica.specs.internal.Model.{model, Inv}
 use Rattle.replica.proofs.ModelLaws.{registers-are}
 use Rattle.history.specs.History.{openedBook, stepsDue, answersDue, Leads, stay, call, all-due}
 use Rattle.history.specs.History.{repliesIn, DueStepsDone, AllDueDone, PanelDemand3}

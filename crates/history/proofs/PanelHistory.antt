@@ -12,11 +12,11 @@ use Rattle.creek.specs.Plan.{Plan}
 use Rattle.creek.specs.Book.{Call, invoke, deliver, commit, undo, execute, Book, isAccepted}
 use Rattle.creek.specs.Replies.{acceptedAnswer}
 use Rattle.creek.specs.Calls.{Replica, fresh, step, answer}
-use Rattle.creek.specs.Sound.{Sound}
+use Rattle.creek.specs.internal.Sound.{Sound}
 use Rattle.creek.specs.Agreement.{broughtBy, settledBy, gathered, replicaAfter}
 use Rattle.creek.proofs.CallLaws.{by-outcome, answer-refusal, step-book}
 use Rattle.creek.proofs.SoundLaws.{reached-sound}
-use Rattle.replica.specs.Model.{model, Inv}
+use Rattle.replica.specs.internal.Model.{model, Inv}
 use Rattle.creek.specs.History.{answersTo}
 use Rattle.history.specs.PanelHistory.{PanelHistory, historyOf, requestTold, settlementTold, told, PanelTells}
 use Rattle.history.proofs.History.{panel-inv, panel-replica, panel-demand-3}

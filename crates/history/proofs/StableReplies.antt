@@ -14,7 +14,7 @@ use Rattle.creek.specs.Book.{Call, Book, undo, execute}
 use Rattle.creek.specs.Replies.{stableMark, responseIn}
 use Rattle.creek.specs.Calls.{Replica, fresh, step, answer}
 use Rattle.creek.specs.History.{run, answersTo, dueCall, afterDueSteps, idled, dueCalls}
-use Rattle.creek.specs.Sound.{Sound}
+use Rattle.creek.specs.internal.Sound.{Sound}
 use Rattle.creek.specs.StableReply.{repliedTo}
 use Rattle.creek.specs.Agreement.{replicaAfter}
 use Rattle.creek.proofs.CallLaws.{run-append}
@@ -25,7 +25,7 @@ use Rattle.creek.specs.Showing.{owedShown}
 use Rattle.replica.specs.State.{State}
 use Rattle.due.specs.Due.{DueOutcome, noReply, replyIn, isAwaited, dueReplies, mostReplies, repliesOwed, RunDue}
 use Rattle.steps.specs.declared.DueReply.{DueReply}
-use Rattle.replica.specs.Model.{model}
+use Rattle.replica.specs.internal.Model.{model}
 use Rattle.history.specs.History.{Leads}
 use Rattle.history.specs.PanelHistory.{PanelHistory, historyOf}
 use Rattle.history.specs.Agreement.{settledList, callAt, answerAt, replyAt, PanelStableReplies}

@@ -23,7 +23,8 @@ use Rattle.creek.specs.History.{run, dueCalls, answersTo, refusalsIn}
 use Rattle.creek.specs.Showing.{registerShown, requestsShown, undosShown, executionsShown, owedShown}
 use Rattle.replica.specs.State.{State}
 use Rattle.steps.specs.declared.DueReply.{DueReply}
-use Rattle.replica.specs.Model.{model, Inv, Fresh}
+use Rattle.replica.specs.Promises.{Fresh}
+use Rattle.replica.specs.internal.Model.{model, Inv}
 use Rattle.due.specs.Due.{noReply, RunDue}
 use Rattle.history.specs.History.{Leads, stay, call, all-due, repliesIn, AllDueDone, PanelDemand3}
 use Rattle.history.specs.Worthless.{PanelCall, single, runDue, singly, Panel, next, after, standFor, answersFrom, KeepsCall}

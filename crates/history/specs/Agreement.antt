@@ -16,7 +16,7 @@ use Rattle.due.specs.Due.{DueOutcome, noReply, RunDue}
 use Rattle.steps.specs.declared.DueReply.{DueReply}
 use Rattle.replica.specs.declared.RegisterValue.{RegisterValue}
 use Rattle.replica.specs.declared.PlacedRequest.{PlacedRequest}
-use Rattle.replica.specs.Model.{model}
+use Rattle.replica.specs.internal.Model.{model}
 use Rattle.replica.specs.Shown.{RegisterShown, PlaceShown}
 use Rattle.history.specs.History.{Leads}
 use Rattle.history.specs.PanelHistory.{PanelHistory, historyOf}

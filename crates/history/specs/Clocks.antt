@@ -11,7 +11,7 @@ use Rattle.creek.specs.declared.Answer.{Answer}
 use Rattle.creek.specs.Clocks.{InEventOrder}
 use Rattle.creek.specs.History.{refusalsIn}
 use Rattle.replica.specs.State.{State}
-use Rattle.replica.specs.Model.{model}
+use Rattle.replica.specs.internal.Model.{model}
 
 -- the number is 5, clock back
 abbrev pub isClockBack : ℕ → Bool

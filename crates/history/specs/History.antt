@@ -22,7 +22,8 @@ use Rattle.creek.specs.Demand.{mostUndos}
 use Rattle.replica.specs.State.{State, Called}
 use Rattle.due.specs.Due.{DueOutcome, noReply, replyIn, isAwaited, mostReplies, RunDue}
 use Rattle.steps.specs.declared.DueReply.{DueReply}
-use Rattle.replica.specs.Model.{model, Inv, Kept}
+use Rattle.replica.specs.Promises.{Kept}
+use Rattle.replica.specs.internal.Model.{model, Inv}
 
 -- ---- the shift book, fed the calls alone
 

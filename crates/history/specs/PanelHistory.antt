@@ -12,7 +12,7 @@ use Rattle.creek.specs.declared.Answer.{Answer}
 use Rattle.creek.specs.Book.{Call, invoke, deliver, commit, undo, execute}
 use Rattle.creek.specs.Agreement.{History, requestsIn, settlementsIn}
 use Rattle.replica.specs.State.{State, Opened}
-use Rattle.replica.specs.Model.{Fresh}
+use Rattle.replica.specs.Promises.{Fresh}
 use Rattle.history.specs.History.{Leads}
 
 -- ---- what was called on a panel

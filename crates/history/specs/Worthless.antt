@@ -15,11 +15,12 @@ use Rattle.creek.specs.Execution.{operations}
 use Rattle.creek.specs.Book.{Call, execute}
 use Rattle.creek.specs.Calls.{isUndo, isExecute}
 use Rattle.creek.specs.Showing.{undosShown, executionsShown}
-use Rattle.creek.specs.Examples.{setTo, make}
+use Rattle.creek.specs.examples.Notation.{setTo, make}
 use Rattle.replica.specs.State.{State, Opened, Called}
 use Rattle.due.specs.Due.{DueOutcome, noReply, RunDue}
 use Rattle.replica.specs.declared.RegisterValue.{RegisterValue}
-use Rattle.replica.specs.Model.{model, Inv, Fresh, Kept}
+use Rattle.replica.specs.Promises.{Fresh, Kept}
+use Rattle.replica.specs.internal.Model.{model, Inv}
 use Rattle.replica.specs.Shown.{RegisterShown}
 use Rattle.history.specs.History.{stepsDue, answersDue, acceptedCalls}
 

@@ -14,7 +14,8 @@ use Rattle.wire.specs.declared.ReadAnswer.the-variants.{Message as aMessage, En
 use Rattle.wire.specs.Message.{said}
 use Rattle.wire.specs.Reader.{Outcome, message, answered}
 use Rattle.wire.proofs.HeldLaws.{said-settlement, said-request}
-use Rattle.intake.specs.Intake.{callOf, answerTo, received, isTakenIn, nothing, takeParts, Taken, ReceiveKept}
+use Rattle.intake.specs.Intake.{callOf, answerTo, received, isTakenIn}
+use Rattle.intake.specs.internal.Parts.{nothing, takeParts, Taken, ReceiveKept}
 use Rattle.intake.proofs.ReadingLaws.{message-only, end-only, refused-only}
 
 module _ {core : Core} {held known awaiting clocks operations contexts order stack responses : List ℕ} where

@@ -1,21 +1,16 @@
 -- The call that a bus message stands for, and what a panel does with what stands at a place of a run of bytes.
-use Prim.Native.Nat.{ℕ}
 use mathlib.Core.Path.{_≡_}
 use mathlib.Core.Bool.{Bool, false}
-use mathlib.Core.List.{List}
 use Rattle.numbers.specs.Numbers.{noNumber}
 use Rattle.creek.specs.declared.Answer.{Answer}
 use Rattle.creek.specs.Book.{Call, Book, deliver, commit, isAccepted}
 use Rattle.creek.specs.Calls.{Replica, step, answer}
 use Rattle.creek.specs.Replies.{done, refusedWith}
-use Rattle.replica.specs.declared.Core.{Core}
-use Rattle.replica.specs.declared.CallResult.{CallResult}
-use Rattle.replica.specs.State.{State, packed}
-use Rattle.replica.specs.Model.{model, bookOf, Inv, Kept}
+use Rattle.replica.specs.State.{State}
+use Rattle.replica.specs.internal.Model.{model, bookOf, Inv}
 use Rattle.wire.specs.Message.{BusMessage, request, settlement}
 use Rattle.wire.specs.Reader.{Outcome, message, end, refused, answered}
 use Rattle.intake.specs.declared.Receipt.{Receipt}
-use Rattle.intake.specs.declared.ReceiveResult.{ReceiveResult}
 
 -- ---- what stands at a place, o, of a run of bytes
 
@@ -51,35 +46,3 @@ pub record Received (p : State) (o : Outcome) (r : Receipt) (q : State) : Type 0
   -- what is refused, by the reader or by the panel, leaves the very state
   pub unchanged : isTakenIn (bookOf p) o ≡ false → q ≡ p
   pub invariant : Inv q
-
--- nothing was taken in by a panel with that core, by that refusal
-abbrev pub nothing : Core → ℕ → ReceiveResult
-nothing core w = record { core = core; receipt = record { taken = 0; answer = refusedWith w noNumber } }
-
--- ---- over the parts of a panel
-
--- p with that core and the parts that taking in a message is lent
-abbrev pub takeParts : State → Core → (held known awaiting clocks operations contexts order stack responses : List ℕ) → State
-takeParts p core held known awaiting clocks operations contexts order stack responses =
-    packed core (p .counters) held known awaiting clocks operations contexts order stack (p .registers) (p .saved) responses
-
--- they are the parts of a panel that came from fresh and the calls
-pub record TakeAsks (core : Core) (held known awaiting clocks operations contexts order stack responses : List ℕ) : Type 0 where
-  pub panel : State
-  pub invariant : Inv (takeParts panel core held known awaiting clocks operations contexts order stack responses)
-
--- of every such panel: the call that the message m stands for was answered and carried out as `creek` says
-pub record Taken (core : Core) (held known awaiting clocks operations contexts order stack responses : List ℕ) (m : BusMessage)
-    (held′ known′ awaiting′ clocks′ operations′ contexts′ order′ : List ℕ) (r : CallResult) : Type 0 where
-  pub kept : (p : State) → Inv (takeParts p core held known awaiting clocks operations contexts order stack responses)
-      → Kept (takeParts p core held known awaiting clocks operations contexts order stack responses) (callOf m) (record {
-        answer = r .answer;
-        state = takeParts p (r .core) held′ known′ awaiting′ clocks′ operations′ contexts′ order′ stack responses;
-      })
-
--- of every such panel: what stands at the place was received
-pub record ReceiveKept (core : Core) (held known awaiting clocks operations contexts order stack responses : List ℕ) (o : Outcome)
-    (held′ known′ awaiting′ clocks′ operations′ contexts′ order′ : List ℕ) (r : ReceiveResult) : Type 0 where
-  pub kept : (p : State) → Inv (takeParts p core held known awaiting clocks operations contexts order stack responses)
-      → Received (takeParts p core held known awaiting clocks operations contexts order stack responses) o (r .receipt)
-      (takeParts p (r .core) held′ known′ awaiting′ clocks′ operations′ contexts′ order′ stack responses)

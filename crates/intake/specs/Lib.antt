@@ -1,3 +1,4 @@
 -- The definitions that the contracts cite.
 pub mod Intake
+pub mod internal
 pub mod Found

@@ -11,7 +11,7 @@ use wire::Subject;
 ghost use mathlib.Core.Path.{_≡_};
 ghost use Rattle.wire.specs.Message.{said};
 ghost use Rattle.wire.specs.Reader.{readAt};
-ghost use Rattle.intake.specs.Intake.{TakeAsks, Taken, nothing, ReceiveKept};
+ghost use Rattle.intake.specs.internal.Parts.{TakeAsks, Taken, nothing, ReceiveKept};
 
 // What the message at a place led to: its bytes, 0 where none could be read, and the answer.
 #[repr(C)]

@@ -33,7 +33,7 @@ use denote.Triple.End.{Fins}
 use denote.Triple.Clauses.{Ended, Clauses, atExit, closing}
 use denote.Triple.Spec.{Meets}
 use denote.Triple.Walked.{needs, Stays, hasOf, walkOf, ends-at, walked, walk-meets}
-use Rattle.replica.specs.Model.{Inv}
+use Rattle.replica.specs.internal.Model.{Inv}
 use Rattle.mizzencord.specs.declared.Panel.{Panel}
 use Rattle.mizzencord.specs.Memory.{memory}
 use Rattle.mizzencord.proofs.Panel as T

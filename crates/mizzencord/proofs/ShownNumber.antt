@@ -11,7 +11,7 @@ use ghost.Atoms.{Atoms}
 use types.Kit.{Given, mean}
 use denote.Plain.{UInt}
 use denote.Triple.Clauses.{Clauses}
-use Rattle.replica.specs.Model.{Inv}
+use Rattle.replica.specs.internal.Model.{Inv}
 use Rattle.mizzencord.specs.declared.Panel.{Panel}
 use Rattle.mizzencord.specs.Memory.{memory}
 use Rattle.mizzencord.proofs.Panel as T

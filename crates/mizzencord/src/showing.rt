@@ -6,7 +6,7 @@ use replica::PlacedRequest;
 use replica::RegisterValue;
 ghost use mathlib.Core.Path.{_≡_};
 ghost use Rattle.creek.specs.Showing.{requestsShown, commitsShown, undosShown, executionsShown, owedShown};
-ghost use Rattle.replica.specs.Model.{model, Inv};
+ghost use Rattle.replica.specs.internal.Model.{model, Inv};
 ghost use Rattle.replica.specs.Shown.{committedShown, RegisterShown, PlaceShown};
 ghost use Rattle.mizzencord.specs.Memory.{memory};
 

@@ -17,7 +17,8 @@ use Rattle.lists.proofs.AllLaws.{all-or-other}
 use Rattle.lists.proofs.BoolLaws.{true-not-false, either}
 use Rattle.request.specs.declared.Operation.{Operation}
 use Rattle.request.specs.Operations.{codeSet, codeAdd, codeClaim, codeMove, codeClaimAll, span}
-use Rattle.effects.specs.Effect.{offBoard, lowestHeld, allSet, exec, ClaimOnBoard}
+use Rattle.effects.specs.Effect.{offBoard, lowestHeld, allSet, exec}
+use Rattle.effects.specs.internal.OnBoard.{ClaimOnBoard}
 use Rattle.effects.specs.Touched.{touched, Untouched}
 use Rattle.effects.proofs.RegisterLaws.{executed-claim-all, executed-no-claim-all, exec-length, exec-frame}
 use Rattle.effects.proofs.SpanLaws.{each-from, all-from, all-zero, set-outside, set-inside}

@@ -7,7 +7,7 @@ use Rattle.counters.specs.Counted.{mostSteps}
 use Rattle.creek.proofs.BoundLaws.{few-undos}
 use Rattle.creek.proofs.StackLaws.{stacked-board}
 use Rattle.replica.specs.State.{State}
-use Rattle.replica.specs.Model.{orderOf, boardOf, bookOf, model, Inv}
+use Rattle.replica.specs.internal.Model.{orderOf, boardOf, bookOf, model, Inv}
 use Rattle.replica.proofs.ModelLaws.{length-board}
 
 module _ (q : State) (inv : Inv q) where

@@ -18,11 +18,12 @@ use Rattle.creek.specs.Book.{emptyBook}
 use Rattle.creek.specs.Calls.{badShop, replicaOf, fresh, freshRefusal}
 use Rattle.slots.specs.Slots.{mostSlots}
 use Rattle.store.specs.Requests.{mostWords}
-use Rattle.creek.specs.Sound.{mostRequests}
+use Rattle.creek.specs.internal.Sound.{mostRequests}
 use Rattle.creek.proofs.SoundLaws.{fresh-sound}
 use Rattle.replica.specs.State.{State}
 use Rattle.replica.proofs.States.{emptyState}
-use Rattle.replica.specs.Model.{planOf, bookOf, model, Inv, GoodShop, Empty, Fresh}
+use Rattle.replica.specs.Promises.{Fresh}
+use Rattle.replica.specs.internal.Model.{planOf, bookOf, model, Inv, GoodShop, Empty}
 
 -- ---- the test of fresh
 

@@ -9,10 +9,11 @@ use Rattle.creek.specs.declared.Answer.{Answer}
 use Rattle.creek.specs.Book.{Call, refusal, isAccepted}
 use Rattle.creek.specs.Replies.{refusedWith, namedByRefusal, acceptedAnswer, answerOf}
 use Rattle.creek.specs.Calls.{accept, step}
-use Rattle.creek.specs.Sound.{Sound}
+use Rattle.creek.specs.internal.Sound.{Sound}
 use Rattle.creek.proofs.SoundLaws.{step-sound}
 use Rattle.replica.specs.State.{State}
-use Rattle.replica.specs.Model.{bookOf, model, Inv, Kept}
+use Rattle.replica.specs.Promises.{Kept}
+use Rattle.replica.specs.internal.Model.{bookOf, model, Inv}
 
 -- a refused call that answers with its refusal and returns the state as it was
 pub kept-refused : (p : State) (c : Call) (word : ℕ) (a : Answer) → Inv p → refusal (bookOf p) c ≡ word → (word ≡ refused.accepted → ⊥)

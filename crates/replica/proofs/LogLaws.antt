@@ -15,7 +15,7 @@ use Rattle.registers.specs.Rollback.{savedOf, savedIn, restored}
 use Rattle.registers.specs.Replay.{replay}
 use Rattle.registers.proofs.ReplayLaws.{replay-more, replay-rolled-back}
 use Rattle.creek.specs.Execution.{operations}
-use Rattle.replica.specs.Model.{operationAt, registersBefore, savedAt, Log}
+use Rattle.replica.specs.internal.Model.{operationAt, registersBefore, savedAt, Log}
 
 module _ (board : List Request) (x : Request) where
   operations-more : operations (board ++ x ∷ []) ≡ operations board ++ x .asked .operation ∷ []

@@ -18,11 +18,11 @@ use Rattle.slots.specs.Slots.{mostSlots, IsSlot, PartsAsk}
 use Rattle.creek.specs.Plan.{order, hasNumber}
 use Rattle.registers.specs.Replay.{replay}
 use Rattle.creek.specs.Execution.{operations, registers}
-use Rattle.creek.specs.Sound.{SoundPlan}
+use Rattle.creek.specs.internal.Sound.{SoundPlan}
 use Rattle.creek.proofs.StackLaws.{stacked-board}
 use Rattle.replica.specs.State.{State}
 use Rattle.store.specs.Requests.{requestAt}
-use Rattle.replica.specs.Model.{requestsAt, orderSlots, boardSlots, orderOf, boardOf, planOf, bookOf, model, Inv}
+use Rattle.replica.specs.internal.Model.{requestsAt, orderSlots, boardSlots, orderOf, boardOf, planOf, bookOf, model, Inv}
 
 -- ---- of every state
 

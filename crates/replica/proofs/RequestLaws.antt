@@ -26,7 +26,7 @@ use Rattle.slots.proofs.SlotLaws.{same-slot}
 use Rattle.creek.specs.Plan.{order, hasNumber, held}
 use Rattle.replica.specs.State.{State}
 use Rattle.store.specs.Requests.{requestAt}
-use Rattle.replica.specs.Model.{orderSlots, planOf, Inv}
+use Rattle.replica.specs.internal.Model.{orderSlots, planOf, Inv}
 use Rattle.replica.proofs.ModelLaws.{order-planned}
 
 module _ (clocks operations contexts : List ℕ) where

@@ -17,7 +17,7 @@ use Rattle.request.specs.Request.{noRequest}
 use Rattle.creek.specs.Showing.{registerRefusal, registerShown, requestsShown, commitsShown, owedShown}
 use Rattle.creek.specs.Showing.{placeRefusal, placeShown}
 use Rattle.replica.specs.State.{State}
-use Rattle.replica.specs.Model.{orderSlots, orderOf, planOf, bookOf, model, Inv}
+use Rattle.replica.specs.internal.Model.{orderSlots, orderOf, planOf, bookOf, model, Inv}
 use Rattle.replica.specs.Shown.{RegisterShown, registersShown, committedShown, PlaceShown}
 use Rattle.replica.proofs.ModelLaws.{requestOf, length-order, order-is, rollback-length, todo-length}
 use Rattle.lists.proofs.StartLaws.{getD-inside}

@@ -9,7 +9,8 @@ use Rattle.numbers.specs.Numbers.{mostPanels}
 use Rattle.registers.specs.Replay.{zeroBoard}
 use Rattle.slots.specs.Slots.{mostSlots}
 use Rattle.store.specs.Requests.{mostWords}
-use Rattle.replica.specs.State.{State, packed, coreIn, firstCore, withBoard, withEntered, withSettled}
+use Rattle.replica.specs.State.{State, packed}
+use Rattle.replica.specs.internal.Cores.{coreIn, firstCore, withBoard, withEntered, withSettled}
 
 -- that of a shift's first moment in that shop
 abbrev pub emptyState : ℕ → PanelNo → State

@@ -1,5 +1,5 @@
 -- The definitions that the contracts cite.
 pub mod State
-pub mod Model
-pub mod Fresh
+pub mod Promises
 pub mod Shown
+pub mod internal

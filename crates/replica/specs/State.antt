@@ -1,10 +1,9 @@
 -- A panel's memory as one record, of which the contracts speak, and what its calls lead to.
-use Prim.Native.Nat.{ℕ, _+_}
+use Prim.Native.Nat.{ℕ}
 use mathlib.Core.List.{List}
 use Rattle.counters.specs.declared.Counters.{Counters}
 use Rattle.numbers.specs.declared.PanelNo.{PanelNo}
 use Rattle.numbers.specs.declared.Clock.{Clock}
-use Rattle.numbers.specs.Numbers.{clockReading}
 use Rattle.sets.specs.declared.Context.{Context}
 use Rattle.sets.specs.Sets.{setOf}
 use Rattle.creek.specs.declared.Answer.{Answer}
@@ -60,78 +59,6 @@ packed core counters held known awaiting clocks operations contexts order stack 
   registers = registers;
   saved = saved;
   responses = responses;
-}
-
--- the core of a panel's memory
-abbrev pub coreIn : State → Core
-coreIn p = record {
-  panels = p .panels;
-  own = p .own;
-  events = p .events;
-  clock = p .clock;
-  committed = p .committed;
-  ordered = p .ordered;
-  executed = p .executed;
-  stacked = p .stacked;
-  commits = p .commits;
-}
-
--- ---- cores
-
--- that of a shift's first moment
-abbrev pub firstCore : ℕ → PanelNo → Core
-firstCore panels own = record {
-  panels = panels;
-  own = own;
-  events = 0;
-  clock = clockReading 0;
-  committed = 0;
-  ordered = 0;
-  executed = 0;
-  stacked = 0;
-  commits = 0;
-}
-
--- with those counts of the executed list and of the board
-abbrev pub withBoard : Core → ℕ → ℕ → Core
-withBoard core executed stacked = record {
-  panels = core .panels;
-  own = core .own;
-  events = core .events;
-  clock = core .clock;
-  committed = core .committed;
-  ordered = core .ordered;
-  executed = executed;
-  stacked = stacked;
-  commits = core .commits;
-}
-
--- with one request more, so much of the executed list kept, and that last own event and clock reading
-abbrev pub withEntered : Core → ℕ → ℕ → Clock → Core
-withEntered core executed events clock = record {
-  panels = core .panels;
-  own = core .own;
-  events = events;
-  clock = clock;
-  committed = core .committed;
-  ordered = core .ordered + 1;
-  executed = executed;
-  stacked = core .stacked;
-  commits = core .commits;
-}
-
--- with one settlement more, so many committed and so much of the executed list kept
-abbrev pub withSettled : Core → ℕ → ℕ → Core
-withSettled core committed executed = record {
-  panels = core .panels;
-  own = core .own;
-  events = core .events;
-  clock = core .clock;
-  committed = committed;
-  ordered = core .ordered;
-  executed = executed;
-  stacked = core .stacked;
-  commits = core .commits + 1;
 }
 
 -- ---- what the calls lead to

@@ -36,8 +36,8 @@ ghost use Rattle.numbers.specs.Numbers.{noNumber};
 ghost use Rattle.sets.specs.Sets.{setOf};
 ghost use Rattle.creek.specs.Calls.{badShop};
 ghost use Rattle.creek.specs.Replies.{refusedWith, reply as replyOf, done as doneOf, awaitingAfter};
-ghost use Rattle.replica.specs.State.{firstCore};
-ghost use Rattle.replica.specs.Fresh.{FreshKept};
+ghost use Rattle.replica.specs.internal.Cores.{firstCore};
+ghost use Rattle.replica.specs.internal.Parts.{FreshKept};
 
 // The small part of a panel's memory, which the calls take and return by value.
 #[repr(C)]

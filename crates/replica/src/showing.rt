@@ -7,7 +7,8 @@ use request::operations as operation;
 use request::refusal;
 use store::requests as stored;
 ghost use Rattle.creek.specs.Showing.{requestsShown, commitsShown, undosShown, executionsShown, owedShown};
-ghost use Rattle.replica.specs.Shown.{committedShown, CoreAsks, CoreShows, CountersShow, RegisterKept, PlaceAsks, PlaceKept};
+ghost use Rattle.replica.specs.Shown.{committedShown};
+ghost use Rattle.replica.specs.internal.Parts.{CoreAsks, CoreShows, CountersShow, RegisterKept, PlaceAsks, PlaceKept};
 
 // The value of register k.
 pub fn register(registers: &[u32; 64], k: u8) -> RegisterValue

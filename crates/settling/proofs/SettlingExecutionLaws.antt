@@ -21,13 +21,13 @@ use Rattle.lists.proofs.MapLaws.{map-take, commonStart-map}
 use Rattle.slots.specs.Slots.{IsSlot}
 use Rattle.creek.specs.Plan.{order as orderPlanned, hasNumber, named, committing}
 use Rattle.creek.specs.Execution.{operations, adjusted}
-use Rattle.creek.specs.Stack.{stacked}
+use Rattle.creek.specs.internal.Stack.{stacked}
 use Rattle.creek.specs.Replies.{responseIn}
 use Rattle.creek.proofs.CommittedLaws.{committing-count}
 use Rattle.creek.proofs.ResponseLaws.{response-behind}
 use Rattle.creek.proofs.StackLaws.{stacked-adjusted}
 use Rattle.replica.specs.State.{State}
-use Rattle.replica.specs.Model.{requestsAt, orderOf, boardSlots, boardOf, planOf, operationAt, registersBefore}
+use Rattle.replica.specs.internal.Model.{requestsAt, orderOf, boardSlots, boardOf, planOf, operationAt, registersBefore}
 use Rattle.lists.proofs.StartLaws.{commonStart-second, take-behind, start-passes}
 use Rattle.replica.proofs.RequestLaws.{same-request}
 use Rattle.settling.proofs.SettlingHeldLaws.{keptAt, numberAt, sound-plan}

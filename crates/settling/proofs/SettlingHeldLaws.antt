@@ -16,11 +16,11 @@ use Rattle.lists.proofs.BoolLaws.{true-not-false, same-test}
 use Rattle.lists.proofs.ListLaws.{count-weaker, passes-count, none-passes-count, found-passes, found-not, find-skip}
 use Rattle.slots.specs.Slots.{IsSlot}
 use Rattle.creek.specs.Plan.{Plan, hasNumber, held, isCommitted}
-use Rattle.creek.specs.Sound.{unknown, knownAgainstStrength, SoundPlan}
+use Rattle.creek.specs.internal.Sound.{unknown, knownAgainstStrength, SoundPlan}
 use Rattle.creek.proofs.HeldLaws.{widened}
 use Rattle.replica.specs.State.{State}
 use Rattle.store.specs.Requests.{askedIn, contextAt as contextIn, requestAt}
-use Rattle.replica.specs.Model.{planOf, bookOf, model, Inv}
+use Rattle.replica.specs.internal.Model.{planOf, bookOf, model, Inv}
 use Rattle.replica.proofs.RequestLaws.{held-some}
 
 -- ---- what p keeps at slot s

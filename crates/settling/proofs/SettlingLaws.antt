@@ -23,17 +23,18 @@ use Rattle.slots.proofs.SlotLaws.{common-from, common-until}
 use Rattle.slots.proofs.SettlementLaws.{unmoved-behind}
 use Rattle.creek.specs.declared.Answer.{Answer}
 use Rattle.creek.specs.Plan.{hasNumber, lastEvent, lastClock, committing, committingFound}
-use Rattle.creek.specs.Stack.{stacked}
+use Rattle.creek.specs.internal.Stack.{stacked}
 use Rattle.creek.specs.Book.{commit, Book, refusal, isAccepted, accepted, planned}
 use Rattle.creek.specs.Replies.{stableMark, reply, done, stableReplyDue, settlementReply, acceptedAnswer, awaitingAfter, acceptedAwaiting}
 use Rattle.creek.specs.Calls.{accept, step}
-use Rattle.creek.specs.Sound.{Sound, mostRequests}
+use Rattle.creek.specs.internal.Sound.{Sound, mostRequests}
 use Rattle.creek.proofs.CallLaws.{answer-accepted, step-accepted}
 use Rattle.creek.proofs.AwaitingLaws.{awaiting-length, awaited-before}
 use Rattle.creek.proofs.LookupLaws.{lastEvent-committing, lastClock-committing}
 use Rattle.creek.proofs.SoundLaws.{step-sound}
 use Rattle.replica.specs.State.{State}
-use Rattle.replica.specs.Model.{orderOf, boardOf, planOf, bookOf, model, Inv, Kept}
+use Rattle.replica.specs.Promises.{Kept}
+use Rattle.replica.specs.internal.Model.{orderOf, boardOf, planOf, bookOf, model, Inv}
 use Rattle.settling.specs.Settling.{agreed, settledAnswer}
 use Rattle.replica.proofs.States.{settledState}
 use Rattle.replica.proofs.ModelLaws.{executed-follows}

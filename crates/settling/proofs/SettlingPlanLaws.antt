@@ -23,7 +23,7 @@ use Rattle.creek.specs.Plan.{order as orderPlanned, hasNumber, named, stays as 
 use Rattle.creek.proofs.CommittedLaws.{not-itself}
 use Rattle.replica.specs.State.{State}
 use Rattle.store.specs.Requests.{requestAt}
-use Rattle.replica.specs.Model.{requestsAt, orderSlots, orderOf, planOf, Inv}
+use Rattle.replica.specs.internal.Model.{requestsAt, orderSlots, orderOf, planOf, Inv}
 use Rattle.settling.proofs.SettlingHeldLaws.{keptAt, numberAt, contextAt, sound-plan}
 
 -- the request kept at slot s is found among the tentative ones

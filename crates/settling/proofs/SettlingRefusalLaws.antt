@@ -18,7 +18,8 @@ use Rattle.creek.specs.Replies.{done, refusedWith, missing, namedByRefusal}
 use Rattle.creek.proofs.AcceptanceLaws.{passed}
 use Rattle.replica.specs.State.{State}
 use Rattle.store.specs.Requests.{requestAt}
-use Rattle.replica.specs.Model.{planOf, bookOf, Inv, Kept}
+use Rattle.replica.specs.Promises.{Kept}
+use Rattle.replica.specs.internal.Model.{planOf, bookOf, Inv}
 use Rattle.settling.specs.Settling.{numberRefusal, heldAnswer}
 use Rattle.replica.proofs.KeptLaws.{kept-refused}
 use Rattle.settling.proofs.SettlingHeldLaws.{keptAt, strongAt, contextAt, sound-plan, good-widened, HeldAt, held-request}

@@ -16,7 +16,8 @@ use Rattle.creek.specs.Replies.{stableMark, reply, done, refusedWith}
 use Rattle.replica.specs.declared.Core.{Core}
 use Rattle.replica.specs.declared.CallResult.{CallResult}
 use Rattle.replica.specs.State.{State, packed}
-use Rattle.replica.specs.Model.{Inv, Kept}
+use Rattle.replica.specs.Promises.{Kept}
+use Rattle.replica.specs.internal.Model.{Inv}
 
 -- by the number alone, with those numbers held: bad number, not here
 unfoldable pub numberRefusal : ℕ → Context → Number → ℕ

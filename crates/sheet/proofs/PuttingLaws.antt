@@ -23,7 +23,8 @@ use Rattle.creek.specs.Calls.{Replica, badShop, freshRefusal, fresh, step, answ
 use Rattle.creek.specs.Showing.{undosShown, executionsShown}
 use Rattle.replica.specs.State.{State, Called}
 use Rattle.due.specs.Due.{DueOutcome}
-use Rattle.replica.specs.Model.{model, Inv, Kept}
+use Rattle.replica.specs.Promises.{Kept}
+use Rattle.replica.specs.internal.Model.{model, Inv}
 use Rattle.due.specs.Due.{RunDue}
 use Rattle.replica.specs.Shown.{registersShown, committedShown}
 use Rattle.wire.specs.declared.Message.{Message}

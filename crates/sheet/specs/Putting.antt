@@ -10,7 +10,7 @@ use Rattle.counters.specs.declared.Counters.{Counters}
 use Rattle.creek.specs.Calls.{Replica, badShop, fresh}
 use Rattle.replica.specs.declared.Core.{Core}
 use Rattle.replica.specs.State.{State, packed}
-use Rattle.replica.specs.Model.{model, Inv}
+use Rattle.replica.specs.internal.Model.{model, Inv}
 use Rattle.wire.specs.declared.Reading.{Reading}
 use Rattle.wire.specs.Message.{BusMessage}
 use Rattle.wire.specs.Reader.{Outcome, message, answered}

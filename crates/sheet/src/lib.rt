@@ -20,7 +20,7 @@ ghost use Prim.Native.Nat.{_+_, _*_, _≤_};
 ghost use lib.ListN.{length};
 ghost use Rattle.report.specs.Sizes.{mostMessageBytes, mostTotalsBytes, mostRegistersBytes};
 ghost use Rattle.replica.specs.State.{packed};
-ghost use Rattle.replica.specs.Model.{model, Inv};
+ghost use Rattle.replica.specs.internal.Model.{model, Inv};
 ghost use Rattle.wire.specs.Message.{said};
 ghost use Rattle.intake.specs.Found.{takenOf};
 ghost use Rattle.printed.specs.Printout.{shopBytes, mostMessages, mostInput, mostPrinted};

@@ -26,17 +26,18 @@ use Rattle.slots.specs.Slots.{IsSlot}
 use Rattle.creek.specs.declared.Answer.{Answer}
 use Rattle.creek.specs.Plan.{order, hasNumber, isCommitted}
 use Rattle.creek.specs.Execution.{operations, registers, executedNext, executeRefusal}
-use Rattle.creek.specs.Stack.{stacked}
+use Rattle.creek.specs.internal.Stack.{stacked}
 use Rattle.creek.specs.Book.{execute, refusal, accepted}
 use Rattle.creek.specs.Replies.{reply, markOf, executionMark, executionReply, acceptedAnswer, awaitingAfter, acceptedAwaiting}
 use Rattle.creek.specs.Calls.{accept}
-use Rattle.creek.specs.Sound.{Sound}
+use Rattle.creek.specs.internal.Sound.{Sound}
 use Rattle.creek.proofs.AwaitingLaws.{awaiting-length, awaited-before}
 use Rattle.creek.proofs.StackLaws.{stacked-executed}
 use Rattle.counters.specs.declared.Counters.{Counters}
 use Rattle.replica.specs.State.{State}
 use Rattle.store.specs.Requests.{askedIn, requestAt}
-use Rattle.replica.specs.Model.{requestsAt, boardSlots, orderOf, boardOf, planOf, bookOf, model, Inv, Kept}
+use Rattle.replica.specs.Promises.{Kept}
+use Rattle.replica.specs.internal.Model.{requestsAt, boardSlots, orderOf, boardOf, planOf, bookOf, model, Inv}
 use Rattle.replica.proofs.States.{executedState}
 use Rattle.replica.proofs.KeptLaws.{kept-accepted}
 use Rattle.replica.proofs.ModelLaws.{registers-are, requestOf, nextSlot, length-order, length-board, order-distinct, rollback-first, rollback-none, next-slot, todo-first, order-next, todo-none}

@@ -19,8 +19,10 @@ use Rattle.creek.specs.Book.{undo, execute, refusal}
 use Rattle.creek.specs.Replies.{noMark, refusedWith, reply, namedByRefusal}
 use Rattle.replica.specs.declared.Core.{Core}
 use Rattle.steps.specs.declared.DueReply.{DueReply}
-use Rattle.replica.specs.State.{State, withBoard}
-use Rattle.replica.specs.Model.{bookOf, Inv, Kept}
+use Rattle.replica.specs.State.{State}
+use Rattle.replica.specs.internal.Cores.{withBoard}
+use Rattle.replica.specs.Promises.{Kept}
+use Rattle.replica.specs.internal.Model.{bookOf, Inv}
 use Rattle.steps.specs.Steps.{undoParts, UndoKept, TopAsks, TakenOff, executeParts, ExecuteKept, PutOn}
 use Rattle.replica.proofs.KeptLaws.{kept-refused}
 use Rattle.replica.proofs.ModelLaws.{top-slot, next-slot}

@@ -13,16 +13,17 @@ use Rattle.registers.specs.Rollback.{restored}
 use Rattle.slots.specs.Slots.{IsSlot}
 use Rattle.creek.specs.declared.Answer.{Answer}
 use Rattle.creek.specs.Execution.{undone, undoRefusal}
-use Rattle.creek.specs.Stack.{stacked}
+use Rattle.creek.specs.internal.Stack.{stacked}
 use Rattle.creek.specs.Book.{undo, refusal, accepted}
 use Rattle.creek.specs.Replies.{noMark, reply, undoReply, acceptedAnswer, acceptedAwaiting}
 use Rattle.creek.specs.Calls.{accept}
-use Rattle.creek.specs.Sound.{Sound}
+use Rattle.creek.specs.internal.Sound.{Sound}
 use Rattle.creek.proofs.StackLaws.{stacked-undone}
 use Rattle.counters.specs.declared.Counters.{Counters}
 use Rattle.replica.specs.State.{State}
 use Rattle.store.specs.Requests.{askedIn, requestAt}
-use Rattle.replica.specs.Model.{boardSlots, orderOf, planOf, bookOf, model, savedAt, Inv, Kept}
+use Rattle.replica.specs.Promises.{Kept}
+use Rattle.replica.specs.internal.Model.{boardSlots, orderOf, planOf, bookOf, model, savedAt, Inv}
 use Rattle.replica.proofs.States.{undoneState}
 use Rattle.replica.proofs.KeptLaws.{kept-accepted}
 use Rattle.replica.proofs.ModelLaws.{requestOf, topSlot, beneath, board-last, beneath-length, rollback-first, rollback-none}

@@ -18,7 +18,8 @@ use Rattle.replica.specs.declared.Core.{Core}
 use Rattle.steps.specs.declared.DueReply.{DueReply}
 use Rattle.steps.specs.declared.StepResult.{StepResult}
 use Rattle.replica.specs.State.{State, packed}
-use Rattle.replica.specs.Model.{Inv, Kept}
+use Rattle.replica.specs.Promises.{Kept}
+use Rattle.replica.specs.internal.Model.{Inv}
 
 -- ---- undo
 

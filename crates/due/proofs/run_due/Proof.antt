@@ -2,7 +2,8 @@
 use mathlib.Core.Path.{refl}
 use Prim.Native.Nat.{_-_}
 use Rattle.counters.specs.Counted.{undosCounted}
-use Rattle.replica.specs.State.{State, withBoard}
+use Rattle.replica.specs.State.{State}
+use Rattle.replica.specs.internal.Cores.{withBoard}
 use Rattle.steps.specs.Steps.{undoParts, executeParts}
 use Rattle.due.proofs.DueParts.{all-due}
 use borrow.Author.Needs.{needs}

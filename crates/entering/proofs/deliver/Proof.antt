@@ -7,7 +7,7 @@ use Rattle.sets.specs.Sets.{setOf, member}
 use Rattle.request.specs.Refusal as refused
 use Rattle.slots.specs.Slots.{IsSlot}
 use Rattle.replica.specs.State.{State}
-use Rattle.replica.specs.Model.{Inv}
+use Rattle.replica.specs.internal.Model.{Inv}
 use Rattle.entering.specs.Entering.{judged, Enters, deliverParts}
 use Rattle.entering.proofs.DeliveringLaws.{judged-good, kept-judged, kept-held, heard-enters, kept-heard}
 use borrow.Author.Needs.{needs}

@@ -5,7 +5,7 @@ use Rattle.request.specs.declared.Request.{Request}
 use Rattle.numbers.specs.Numbers.{slotOf}
 use Rattle.creek.specs.Replies.{spread}
 use Rattle.replica.specs.State.{State}
-use Rattle.replica.specs.Model.{Inv}
+use Rattle.replica.specs.internal.Model.{Inv}
 use Rattle.entering.specs.Entering.{Enters, enterParts}
 use Rattle.entering.proofs.EnteringLaws.{tentative-asks}
 use Rattle.entering.proofs.InvokingLaws.{kept-asked, events-left, asked-enters, kept-made}

@@ -1,6 +1,6 @@
 -- `take` meets its contract.
 use Rattle.replica.specs.State.{State}
-use Rattle.intake.specs.Intake.{takeParts}
+use Rattle.intake.specs.internal.Parts.{takeParts}
 use Rattle.intake.proofs.IntakeLaws.{take-settled, take-heard}
 use borrow.Author.Needs.{needs}
 use Rattle.intake.proofs.take.Statement.{statement}

@@ -16,7 +16,7 @@ use Rattle.settling.specs.Settling.{CommitAsks, CommitKept}
 use Rattle.settling.proofs.commit as callee
 use Rattle.settling.proofs.commit.Symbol as callee-def
 use Rattle.settling.proofs.commit.Met as callee-thm
-use Rattle.replica.specs.Model.{Inv}
+use Rattle.replica.specs.internal.Model.{Inv}
 use Rattle.mizzencord.specs.Memory.{memory}
 use Rattle.lending.proofs.Values.{Value, struct}
 use Rattle.lending.proofs.Locals.{blocks}

@@ -26,7 +26,7 @@ use Rattle.steps.proofs.StepResult.Laws as Sr′
 use Rattle.steps.proofs.execute as callee
 use Rattle.steps.proofs.execute.Symbol as callee-def
 use Rattle.steps.proofs.execute.Met as callee-thm
-use Rattle.replica.specs.Model.{Inv}
+use Rattle.replica.specs.internal.Model.{Inv}
 use Rattle.mizzencord.specs.Memory.{memory}
 use Rattle.lending.proofs.Locals.{blocks, the}
 use Rattle.lending.proofs.Choosing.{Choice, stays, is-read-first, is-read, is-changed}

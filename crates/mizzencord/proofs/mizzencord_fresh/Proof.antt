@@ -31,7 +31,7 @@ use Rattle.counters.proofs.Counters as Cs
 use Rattle.numbers.proofs.PanelNo as Pn
 use Rattle.numbers.proofs.PanelNo.Laws as Pn′
 use Rattle.replica.specs.declared.FreshResult.{FreshResult}
-use Rattle.replica.specs.Fresh.{FreshKept}
+use Rattle.replica.specs.internal.Parts.{FreshKept}
 use Rattle.replica.proofs.FreshResult as Sr
 use Rattle.replica.proofs.FreshResult.Laws as Sr′
 use Rattle.replica.proofs.fresh as callee

@@ -16,7 +16,7 @@ use Rattle.entering.specs.Entering.{InvokeAsks, InvokeKept}
 use Rattle.entering.proofs.invoke as callee
 use Rattle.entering.proofs.invoke.Symbol as callee-def
 use Rattle.entering.proofs.invoke.Met as callee-thm
-use Rattle.replica.specs.Model.{Inv}
+use Rattle.replica.specs.internal.Model.{Inv}
 use Rattle.mizzencord.specs.Memory.{memory}
 use Rattle.lending.proofs.Values.{Value, struct}
 use Rattle.lending.proofs.Locals.{blocks}

@@ -21,12 +21,12 @@ use denote.Triple.Spec.{tripleOf}
 use denote.Triple.Table.{entered, cited}
 use Rattle.wire.specs.Reader.{readAt}
 use Rattle.intake.specs.declared.ReceiveResult.{ReceiveResult}
-use Rattle.intake.specs.Intake.{TakeAsks, ReceiveKept}
+use Rattle.intake.specs.internal.Parts.{TakeAsks, ReceiveKept}
 use Rattle.intake.proofs.receive as callee
 use Rattle.intake.proofs.receive.Symbol as callee-def
 use Rattle.intake.proofs.receive.Met as callee-thm
 use Rattle.mizzencord.specs.declared.Panel.{Panel}
-use Rattle.replica.specs.Model.{Inv}
+use Rattle.replica.specs.internal.Model.{Inv}
 use Rattle.mizzencord.specs.Memory.{memory}
 use Rattle.lending.proofs.Values.{number}
 use Rattle.lending.proofs.Locals.{blocks}

@@ -24,13 +24,13 @@ use Rattle.counters.proofs.count_executions.Symbol as count-def
 use Rattle.counters.proofs.count_executions.Met as count-thm
 use Rattle.replica.proofs.BoundLaws.{undos-fit, executions-fit}
 use Rattle.steps.specs.Steps.{ExecuteAsks}
-use Rattle.due.specs.Due.{DueKept}
+use Rattle.due.specs.internal.Parts.{DueKept}
 use Rattle.due.proofs.DueSteps as X
 use Rattle.due.proofs.DueSteps.Laws as X′
 use Rattle.due.proofs.run_due as callee
 use Rattle.due.proofs.run_due.Symbol as callee-def
 use Rattle.due.proofs.run_due.Met as callee-thm
-use Rattle.replica.specs.Model.{Inv}
+use Rattle.replica.specs.internal.Model.{Inv}
 use Rattle.mizzencord.specs.Memory.{memory}
 use Rattle.lending.proofs.Locals.{blocks, the}
 use Rattle.lending.proofs.Choosing.{Choice, stays, is-read-first, is-read, is-changed}

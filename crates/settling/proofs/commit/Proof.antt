@@ -9,9 +9,9 @@ use Rattle.slots.specs.Slots.{IsSlot}
 use Rattle.slots.specs.Settlement.{Settled}
 use Rattle.store.specs.Requests.{askedIn, contextAt}
 use Rattle.sets.specs.Sets.{setOf}
-use Rattle.creek.specs.Sound.{mostRequests}
+use Rattle.creek.specs.internal.Sound.{mostRequests}
 use Rattle.replica.specs.State.{State}
-use Rattle.replica.specs.Model.{Inv}
+use Rattle.replica.specs.internal.Model.{Inv}
 use Rattle.settling.specs.Settling.{heldAnswer, commitParts}
 use Rattle.settling.proofs.SettlingHeldLaws.{HeldAt, held-slot}
 use Rattle.settling.proofs.SettlingRefusalLaws.{kept-by-number, number-passed, Settles, kept-by-held, settles}

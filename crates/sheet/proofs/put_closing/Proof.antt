@@ -9,7 +9,7 @@ use Rattle.report.specs.Lines.{totalsLine, registerLines}
 use Rattle.report.specs.Sizes.{mostTotalsBytes, mostRegistersBytes}
 use Rattle.report.proofs.SizeLaws.{totals-short, registers-short}
 use Rattle.replica.specs.State.{State}
-use Rattle.replica.specs.Model.{model, Inv}
+use Rattle.replica.specs.internal.Model.{model, Inv}
 use Rattle.replica.proofs.ShowingLaws.{all-registers-are}
 use Rattle.sheet.specs.Putting.{closingParts}
 use Rattle.sheet.proofs.PuttingLaws.{registers-count, closing-is}

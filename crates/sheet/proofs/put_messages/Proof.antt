@@ -5,7 +5,7 @@ use mathlib.Core.Path.{refl}
 use lib.ListN.{length}
 use borrow.Author.Needs.{needs}
 use Rattle.replica.specs.State.{packed}
-use Rattle.replica.specs.Model.{model}
+use Rattle.replica.specs.internal.Model.{model}
 use Rattle.sheet.proofs.PuttingLaws.{Putting, put-start, line-room, n-within, put-step, put-end}
 use Rattle.sheet.proofs.put_messages.Statement.{statement}
 use Rattle.sheet.proofs.put_messages.Tie as tie

@@ -1,6 +1,6 @@
 -- `entry::message_call` meets its contract: each arm is a case of the tag and of the message.
 use Rattle.replica.specs.State.{State}
-use Rattle.intake.specs.Intake.{takeParts}
+use Rattle.intake.specs.internal.Parts.{takeParts}
 use Rattle.encoding.proofs.CallLaws.{kept-invoke, kept-taken}
 use borrow.Author.Needs.{needs}
 use Rattle.driver.proofs.entry.message_call.Statement.{statement}

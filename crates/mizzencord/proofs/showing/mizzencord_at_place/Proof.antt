@@ -8,7 +8,7 @@ use contract.Monad.{fact, factI}
 use contract.Running.{givenOf, tables, tablesOf}
 use denote.Triple.Spec.{tripleOf}
 use denote.Triple.Table.{entered, cited}
-use Rattle.replica.specs.Shown.{PlaceAsks, PlaceKept}
+use Rattle.replica.specs.internal.Parts.{PlaceAsks, PlaceKept}
 use Rattle.replica.proofs.PlacedRequest as X
 use Rattle.replica.proofs.PlacedRequest.Laws as X′
 use Rattle.replica.proofs.showing.at_place as callee

@@ -6,7 +6,7 @@ use contract.Running.{givenOf, tables, tablesOf}
 use denote.Triple.Spec.{tripleOf}
 use denote.Triple.Table.{entered, cited}
 use Rattle.creek.specs.Showing.{commitsShown}
-use Rattle.replica.specs.Shown.{CoreShows}
+use Rattle.replica.specs.internal.Parts.{CoreShows}
 use Rattle.replica.proofs.showing.commits as callee
 use Rattle.replica.proofs.showing.commits.Symbol as callee-def
 use Rattle.replica.proofs.showing.commits.Met as callee-thm

@@ -5,7 +5,8 @@ use contract.Monad.{factI}
 use contract.Running.{givenOf, tables, tablesOf}
 use denote.Triple.Spec.{tripleOf}
 use denote.Triple.Table.{entered, cited}
-use Rattle.replica.specs.Shown.{committedShown, CoreShows}
+use Rattle.replica.specs.Shown.{committedShown}
+use Rattle.replica.specs.internal.Parts.{CoreShows}
 use Rattle.replica.proofs.showing.committed as callee
 use Rattle.replica.proofs.showing.committed.Symbol as callee-def
 use Rattle.replica.proofs.showing.committed.Met as callee-thm

@@ -6,7 +6,7 @@ use contract.Running.{givenOf, tables, tablesOf}
 use denote.Triple.Spec.{tripleOf}
 use denote.Triple.Table.{entered, cited}
 use Rattle.creek.specs.Showing.{executionsShown}
-use Rattle.replica.specs.Shown.{CountersShow}
+use Rattle.replica.specs.internal.Parts.{CountersShow}
 use Rattle.replica.proofs.showing.executions as callee
 use Rattle.replica.proofs.showing.executions.Symbol as callee-def
 use Rattle.replica.proofs.showing.executions.Met as callee-thm

@@ -6,7 +6,7 @@ use contract.Running.{givenOf, tables, tablesOf}
 use denote.Triple.Spec.{tripleOf}
 use denote.Triple.Table.{entered, cited}
 use Rattle.creek.specs.Showing.{owedShown}
-use Rattle.replica.specs.Shown.{CoreAsks, CoreShows}
+use Rattle.replica.specs.internal.Parts.{CoreAsks, CoreShows}
 use Rattle.replica.proofs.showing.owed as callee
 use Rattle.replica.proofs.showing.owed.Symbol as callee-def
 use Rattle.replica.proofs.showing.owed.Met as callee-thm

@@ -8,7 +8,7 @@ use contract.Monad.{factI}
 use contract.Running.{givenOf, tables, tablesOf}
 use denote.Triple.Spec.{tripleOf}
 use denote.Triple.Table.{entered, cited}
-use Rattle.replica.specs.Shown.{RegisterKept}
+use Rattle.replica.specs.internal.Parts.{RegisterKept}
 use Rattle.replica.proofs.RegisterValue as X
 use Rattle.replica.proofs.RegisterValue.Laws as X′
 use Rattle.replica.proofs.showing.register as callee

@@ -6,7 +6,7 @@ use contract.Running.{givenOf, tables, tablesOf}
 use denote.Triple.Spec.{tripleOf}
 use denote.Triple.Table.{entered, cited}
 use Rattle.creek.specs.Showing.{requestsShown}
-use Rattle.replica.specs.Shown.{CoreShows}
+use Rattle.replica.specs.internal.Parts.{CoreShows}
 use Rattle.replica.proofs.showing.requests as callee
 use Rattle.replica.proofs.showing.requests.Symbol as callee-def
 use Rattle.replica.proofs.showing.requests.Met as callee-thm

@@ -6,7 +6,7 @@ use contract.Running.{givenOf, tables, tablesOf}
 use denote.Triple.Spec.{tripleOf}
 use denote.Triple.Table.{entered, cited}
 use Rattle.creek.specs.Showing.{undosShown}
-use Rattle.replica.specs.Shown.{CountersShow}
+use Rattle.replica.specs.internal.Parts.{CountersShow}
 use Rattle.replica.proofs.showing.undos as callee
 use Rattle.replica.proofs.showing.undos.Symbol as callee-def
 use Rattle.replica.proofs.showing.undos.Met as callee-thm

@@ -2,7 +2,7 @@
 use native.Mathlib.Omega.{arith}
 use Prim.Native.Nat.{_-_}
 use Rattle.replica.specs.State.{State}
-use Rattle.replica.specs.Shown.{placeParts}
+use Rattle.replica.specs.internal.Parts.{placeParts}
 use Rattle.replica.proofs.ModelLaws.{order-slot}
 use Rattle.replica.proofs.ShowingLaws.{place-refused, Within, within, place-shown}
 use borrow.Author.Needs.{needs}

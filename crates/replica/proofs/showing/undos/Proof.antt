@@ -1,6 +1,6 @@
 -- `showing::undos` meets its contract.
 use mathlib.Core.Path.{refl}
-use Rattle.replica.specs.Model.{model}
+use Rattle.replica.specs.internal.Model.{model}
 use Rattle.replica.proofs.showing.undos.Statement.{statement}
 use Rattle.replica.proofs.showing.undos.Tie as tie
 

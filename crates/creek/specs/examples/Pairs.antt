@@ -17,8 +17,8 @@ use Rattle.creek.specs.Replies.{tentativeMark, responseIn}
 use Rattle.creek.specs.Calls.{fresh, answer}
 use Rattle.creek.specs.History.{run}
 use Rattle.creek.specs.Showing.{registerShown}
-use Rattle.creek.specs.Examples.{Case, case, setTo, add, claim, weak, strong, make, makeStrong, answers, numbers, driven}
-use Rattle.creek.specs.Examples.{replied}
+use Rattle.creek.specs.examples.Notation.{Case, case, setTo, add, claim, weak, strong, make, makeStrong, answers, numbers, driven}
+use Rattle.creek.specs.examples.Notation.{replied}
 use Rattle.creek.specs.Agreement.{standingOrder, History, requestsIn, settlementsIn, replicaAfter, AcceptedSame, Idle}
 
 -- ---- the histories

@@ -13,8 +13,8 @@ use Rattle.registers.specs.Moves.{sum}
 use Rattle.creek.specs.Book.{Call, deliver, execute}
 use Rattle.creek.specs.Calls.{answer, fresh}
 use Rattle.creek.specs.History.{run}
-use Rattle.creek.specs.Examples.{Case, case, read, setTo, claim, move, weak, make, makeStrong, onRegisters, answers, spreads}
-use Rattle.creek.specs.Examples.{eventsAndClocks}
+use Rattle.creek.specs.examples.Notation.{Case, case, read, setTo, claim, move, weak, make, makeStrong, onRegisters, answers, spreads}
+use Rattle.creek.specs.examples.Notation.{eventsAndClocks}
 
 -- panel 2 of 3 makes 2/1 at 20 and hears 0/1 at 15
 unfoldable pub madeAndHeard : List Call

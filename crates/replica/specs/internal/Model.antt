@@ -1,7 +1,8 @@
--- The state as a replica of `creek`: the map, the invariant that fresh establishes and every call keeps, and what a call promises.
+-- The state as a replica of `creek`: the map, and the invariant that fresh establishes and every call keeps. No answer depends on what they
+-- say: fresh and every call are stated by the map, from the replica of a fresh panel on.
 use Prim.Native.Nat.{ℕ, _≤_, _<_}
 use mathlib.Core.Path.{_≡_}
-use mathlib.Core.Bool.{true, false}
+use mathlib.Core.Bool.{true}
 use mathlib.Core.List.{List, map}
 use lib.ListN.{length, take, drop, getD}
 use lib.Dec.{eqb}
@@ -20,12 +21,12 @@ use Rattle.lists.specs.Places.{All}
 use Rattle.slots.specs.Slots.{IsSlot}
 use Rattle.store.specs.Requests.{requestAt, Long}
 use Rattle.creek.specs.Plan.{Plan, lastEvent, lastClock}
-use Rattle.creek.specs.Book.{Call, Book, isAccepted}
+use Rattle.creek.specs.Book.{Book}
 use Rattle.creek.specs.Execution.{operations}
-use Rattle.creek.specs.Stack.{stacked}
-use Rattle.creek.specs.Calls.{Replica, fresh, freshRefusal, step, answer}
-use Rattle.creek.specs.Sound.{Sound, mostRequests}
-use Rattle.replica.specs.State.{State, Opened, Called}
+use Rattle.creek.specs.internal.Stack.{stacked}
+use Rattle.creek.specs.Calls.{Replica, fresh}
+use Rattle.creek.specs.internal.Sound.{Sound, mostRequests}
+use Rattle.replica.specs.State.{State}
 
 -- ---- requests at slots
 
@@ -126,7 +127,7 @@ pub record Inv (q : State) : Type 0 where
   pub awaiting-own : (n : Number) → member (q .awaiting) n ≡ true → n .panel .0 ≡ q .own .0
   pub sound : Sound (model q)
 
--- ---- what fresh and the calls promise
+-- ---- a shift's first moment
 
 pub record GoodShop (panels own : ℕ) : Type 0 where
   pub few : panels ≤ mostPanels
@@ -136,18 +137,3 @@ pub record GoodShop (panels own : ℕ) : Type 0 where
 pub record Empty (panels own : ℕ) (q : State) : Type 0 where
   pub state : model q ≡ fresh panels own
   pub invariant : Inv q
-
-pub record Fresh (panels own : ℕ) (r : Opened) : Type 0 where
-  pub refusal : r .refusal ≡ freshRefusal panels own
-  pub state : model (r .state) ≡ fresh panels own
-  pub invariant : Inv (r .state)
-
--- a call on p, answered and carried out as `creek` says
-pub record Kept (p : State) (c : Call) (r : Called) : Type 0 where
-  -- the answer outright, every field, refused or not
-  pub answer : r .answer ≡ answer (model p) c
-  -- the state outright
-  pub state : model (r .state) ≡ step (model p) c
-  -- a refused call returns the very state that it was given
-  pub unchanged : isAccepted (bookOf p) c ≡ false → r .state ≡ p
-  pub invariant : Inv (r .state)

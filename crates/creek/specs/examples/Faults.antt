@@ -10,8 +10,8 @@ use Rattle.creek.specs.Calls.{Replica, fresh, step, answer}
 use Rattle.creek.specs.History.{run, idled}
 use Rattle.creek.specs.Showing.{registerShown, undosShown}
 use Rattle.creek.specs.Demand.{mostUndos}
-use Rattle.creek.specs.Cases.{standing}
-use Rattle.creek.specs.Examples.{Case, case, read, setTo, add, claim, weak, strong, makeStrong, numbers, driven, replied}
+use Rattle.creek.specs.examples.Cases.{standing}
+use Rattle.creek.specs.examples.Notation.{Case, case, read, setTo, add, claim, weak, strong, makeStrong, numbers, driven, replied}
 
 -- ---- the histories
 

@@ -14,8 +14,8 @@ use Rattle.creek.specs.Book.{Call, deliver, commit}
 use Rattle.creek.specs.Calls.{Replica, freshRefusal, fresh}
 use Rattle.creek.specs.History.{run}
 use Rattle.creek.specs.Showing.{registerShown, undosShown, executionsShown}
-use Rattle.creek.specs.Examples.{Case, case, read, setTo, add, claim, move, weak, strong, make, onRegisters, onBoard}
-use Rattle.creek.specs.Examples.{answers, spreads, eventsAndClocks, numbers, driven}
+use Rattle.creek.specs.examples.Notation.{Case, case, read, setTo, add, claim, move, weak, strong, make, onRegisters, onBoard}
+use Rattle.creek.specs.examples.Notation.{answers, spreads, eventsAndClocks, numbers, driven}
 
 -- the printout's input for panel 2 of 3
 unfoldable pub worked : List Call

@@ -1,0 +1,6 @@
+-- Worked examples.
+pub mod Notation
+pub mod Cases
+pub mod Faults
+pub mod Readings
+pub mod Pairs

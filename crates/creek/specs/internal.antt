@@ -1,0 +1,4 @@
+-- What only invariants and proofs cite.
+pub mod Sound
+pub mod SoundAwaiting
+pub mod Stack

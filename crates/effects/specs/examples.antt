@@ -1,0 +1,3 @@
+-- Worked examples.
+pub mod ClaimReadings
+pub mod TouchedCases

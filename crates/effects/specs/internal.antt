@@ -1,0 +1,2 @@
+-- What only internal functions and proofs cite.
+pub mod OnBoard
