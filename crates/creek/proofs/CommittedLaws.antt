@@ -8,7 +8,8 @@ use mathlib.Core.Option.{some}
 use lib.ListN.{length}
 use Rattle.sets.specs.declared.Context.{Context}
 use Rattle.request.specs.declared.Request.{Request}
-use Rattle.numbers.specs.Numbers.{mostPanels, GoodNumber}
+use Rattle.numbers.specs.Numbers.{mostPanels}
+use Rattle.numbers.specs.internal.Slots.{GoodNumber}
 use Rattle.sets.specs.Sets.{isEmpty, namesFrom, join, subset}
 use Rattle.request.specs.Order.{before}
 use Rattle.request.specs.Request.{badContext}

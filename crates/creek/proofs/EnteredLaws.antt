@@ -7,7 +7,8 @@ use mathlib.Core.List.{List, _∷_}
 use lib.ListN.{length}
 use Rattle.sets.specs.declared.Context.{Context}
 use Rattle.request.specs.declared.Request.{Request}
-use Rattle.numbers.specs.Numbers.{sameNumber, mostPanels, GoodNumber}
+use Rattle.numbers.specs.Numbers.{sameNumber, mostPanels}
+use Rattle.numbers.specs.internal.Slots.{GoodNumber}
 use Rattle.sets.specs.Sets.{member, join}
 use Rattle.request.specs.Order.{before}
 use Rattle.request.specs.Refusal as refused

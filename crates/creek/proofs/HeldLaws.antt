@@ -11,7 +11,8 @@ use borrow.Author.Tests.{ltb-true, eqb-true, lt-ltb}
 use Rattle.sets.specs.declared.Context.{Context}
 use Rattle.numbers.specs.declared.Number.{Number}
 use Rattle.request.specs.declared.Request.{Request}
-use Rattle.numbers.specs.Numbers.{sameNumber, badNumber, mostPanels, GoodNumber, slotOf, numberOf}
+use Rattle.numbers.specs.Numbers.{sameNumber, badNumber, mostPanels}
+use Rattle.numbers.specs.internal.Slots.{GoodNumber, slotOf, numberOf}
 use Rattle.request.specs.Asked.{badAsked}
 use Rattle.sets.specs.Sets.{member, join}
 use Rattle.request.specs.Request.{badContext}

@@ -8,7 +8,8 @@ use lib.ListN.{length}
 use Rattle.sets.specs.declared.Context.{Context}
 use Rattle.numbers.specs.declared.Number.{Number}
 use Rattle.request.specs.declared.Request.{Request}
-use Rattle.numbers.specs.Numbers.{sameNumber, mostPanels, GoodNumber}
+use Rattle.numbers.specs.Numbers.{sameNumber, mostPanels}
+use Rattle.numbers.specs.internal.Slots.{GoodNumber}
 use Rattle.sets.specs.Sets.{member}
 use Rattle.request.specs.Refusal as refused
 use Rattle.lists.proofs.BoolLaws.{neither}

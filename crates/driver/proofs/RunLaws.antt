@@ -14,7 +14,8 @@ use Rattle.replica.specs.State.{State, Opened}
 use Rattle.replica.specs.Promises.{Fresh}
 use Rattle.replica.specs.internal.Model.{model}
 use Rattle.encoding.specs.Encoding.{panelsOf, ownOf, callsAt, callCount, entriesOf, answerSize, answersBytes}
-use Rattle.encoding.specs.Encoding.{runEntries, freshOf, tight, entriesRun, RanAll}
+use Rattle.encoding.specs.Encoding.{freshOf, tight, entriesRun}
+use Rattle.encoding.specs.internal.Running.{runEntries, RanAll}
 use Rattle.driver.specs.declared.RunResult.{RunResult}
 use Rattle.driver.specs.Running.{RanList}
 use Rattle.encoding.proofs.Expanded.{run-expanded}

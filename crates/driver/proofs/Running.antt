@@ -12,7 +12,8 @@ use Rattle.creek.specs.Calls.{Replica}
 use Rattle.replica.specs.State.{State, Called}
 use Rattle.replica.specs.internal.Model.{Inv, model}
 use Rattle.encoding.specs.Encoding.{callsAt, callSize, Entry, entryAt, entriesFrom, callCount, entriesOf}
-use Rattle.encoding.specs.Encoding.{after, answerTo, runEntries, Done, answerBytes, answersBytes, RanAll}
+use Rattle.encoding.specs.Encoding.{after, answerTo, answerBytes, answersBytes}
+use Rattle.encoding.specs.internal.Running.{runEntries, Done, RanAll}
 
 -- the first of the calls that are left, and those behind it
 one-call : (s : List ℕ) (at count i : ℕ) → i < count

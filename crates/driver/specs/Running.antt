@@ -9,7 +9,8 @@ use Rattle.creek.specs.Calls.{freshRefusal}
 use Rattle.creek.specs.History.{run}
 use Rattle.replica.specs.State.{State}
 use Rattle.replica.specs.internal.Model.{Inv, model}
-use Rattle.encoding.specs.Encoding.{panelsOf, ownOf, runEntries, callsOf, freshOf, tight, entriesRun, answersBytes}
+use Rattle.encoding.specs.Encoding.{panelsOf, ownOf, freshOf, tight, entriesRun, answersBytes}
+use Rattle.encoding.specs.internal.Running.{runEntries, callsOf}
 use Rattle.driver.specs.declared.RunResult.{RunResult}
 
 -- what a run of the bytes s does where the lent bytes were out and are out′, and q is the panel's memory then

@@ -9,7 +9,8 @@ ghost use Prim.Native.Nat.{_<_};
 ghost use lib.ListN.{length};
 ghost use Rattle.replica.specs.State.{packed};
 ghost use Rattle.replica.specs.internal.Model.{Inv};
-ghost use Rattle.encoding.specs.Encoding.{entryAt, Done};
+ghost use Rattle.encoding.specs.Encoding.{entryAt};
+ghost use Rattle.encoding.specs.internal.Running.{Done};
 ghost use Rattle.intake.specs.internal.Parts.{TakeAsks};
 ghost use Rattle.driver.specs.Parts.{leadsTo, MessageKept};
 

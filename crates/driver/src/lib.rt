@@ -13,7 +13,8 @@ ghost use mathlib.Core.Path.{_≡_};
 ghost use Rattle.text.specs.Placed.{Room};
 ghost use Rattle.replica.specs.State.{packed};
 ghost use Rattle.replica.specs.internal.Model.{Inv, model};
-ghost use Rattle.encoding.specs.Encoding.{callCount, entriesOf, answersBytes, RanAll};
+ghost use Rattle.encoding.specs.Encoding.{callCount, entriesOf, answersBytes};
+ghost use Rattle.encoding.specs.internal.Running.{RanAll};
 ghost use Rattle.driver.specs.Running.{RanList};
 
 // What a run returns: whether the lent bytes have room for the answers, the refusal of fresh, how many calls were run, and the core and

@@ -15,7 +15,7 @@ use Rattle.lists.specs.Lists.{one, count, consIf}
 use Rattle.lists.proofs.ListLaws.{one-true, count-append}
 use Rattle.numbers.specs.declared.Number.{Number}
 use Rattle.request.specs.declared.Request.{Request}
-use Rattle.numbers.specs.Numbers.{numberOf}
+use Rattle.numbers.specs.internal.Slots.{numberOf}
 use Rattle.sets.specs.Sets.{setOf, member}
 use Rattle.registers.specs.Effect.{Executed}
 use Rattle.registers.specs.Rollback.{savedOf, savedIn, restored}

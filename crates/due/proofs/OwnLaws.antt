@@ -11,7 +11,8 @@ use Rattle.lists.proofs.BoolLaws.{both, both-true}
 use Rattle.lists.proofs.ListLaws.{count-implies, count-keep, pigeonhole}
 use Rattle.sets.specs.declared.Context.{Context}
 use Rattle.request.specs.declared.Request.{Request}
-use Rattle.numbers.specs.Numbers.{numbered, mostEvents, GoodNumber}
+use Rattle.numbers.specs.Numbers.{numbered, mostEvents}
+use Rattle.numbers.specs.internal.Slots.{GoodNumber}
 use Rattle.numbers.proofs.NumberLaws.{good-number, sameNumber-of}
 use Rattle.creek.specs.Plan.{isOf, hasNumber}
 use Rattle.creek.specs.internal.Sound.{isBad, Held}

@@ -15,7 +15,8 @@ use Rattle.replica.specs.Promises.{Kept}
 use Rattle.replica.specs.internal.Model.{Inv, model}
 use Rattle.due.specs.Due.{RunDue}
 use Rattle.replica.proofs.ShowingLaws.{owed-are}
-use Rattle.encoding.specs.Encoding.{allDueTag, callAt, one, allDue, entryAt, after, answerTo, Done}
+use Rattle.encoding.specs.Encoding.{allDueTag, callAt, one, allDue, entryAt, after, answerTo}
+use Rattle.encoding.specs.internal.Running.{Done}
 
 -- at most two steps are owed for each request
 owed-few : (p : State) → Inv p → owedShown (model p) ≤ 2 * mostRequests

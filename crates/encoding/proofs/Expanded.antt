@@ -6,7 +6,8 @@ use Rattle.creek.specs.History.{run}
 use Rattle.creek.proofs.CallLaws.{run-append}
 use Rattle.creek.proofs.DueLaws.{run-due}
 use Rattle.creek.specs.Showing.{owedShown}
-use Rattle.encoding.specs.Encoding.{Entry, one, allDue, after, runEntries, callsIn, callsOf}
+use Rattle.encoding.specs.Encoding.{Entry, one, allDue, after}
+use Rattle.encoding.specs.internal.Running.{runEntries, callsIn, callsOf}
 
 run-entry : (r : Replica) (x : Entry) → run r (callsIn r x) ≡ after r x
 unfolding callsIn after run

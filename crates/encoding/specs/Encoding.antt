@@ -1,6 +1,5 @@
 -- Lists of calls as bytes, answers as bytes, and what a run of bytes leads to.
 use Prim.Native.Nat.{ℕ, zero, suc, _+_, _-_, _/_}
-use mathlib.Core.Path.{_≡_}
 use mathlib.Core.Bool.{Bool, cond}
 use mathlib.Core.List.{List, [], _∷_, _++_}
 use lib.ListN.{length, getD, replicate}
@@ -13,10 +12,8 @@ use Rattle.creek.specs.declared.Answer.{Answer}
 use Rattle.creek.specs.Book.{Call, invoke, undo, execute}
 use Rattle.creek.specs.Replies.{noMark, reply}
 use Rattle.creek.specs.Calls.{Replica, fresh, step, answer}
-use Rattle.creek.specs.History.{idled, dueCalls}
+use Rattle.creek.specs.History.{idled}
 use Rattle.creek.specs.Showing.{owedShown}
-use Rattle.replica.specs.State.{State, Called}
-use Rattle.replica.specs.internal.Model.{Inv, model}
 use Rattle.wire.specs.declared.Message.{Message}
 use Rattle.wire.specs.Integers.{integerBytes}
 use Rattle.wire.specs.Layout.{longestMessage}
@@ -112,29 +109,6 @@ unfoldable pub answerTo : Replica → Entry → Answer
 answerTo r (one c) = answer r c
 answerTo r allDue = reply noNumber (owedShown r) noMark
 
--- the replica after those entries, each on what the last one left
-unfoldable pub runEntries : Replica → List Entry → Replica
-runEntries r [] = r
-runEntries r (x ∷ xs) = runEntries (after r x) xs
-
--- the entry was carried out on p
-pub record Done (p : State) (x : Entry) (r : Called) : Type 0 where
-  pub answer : r .answer ≡ answerTo (model p) x
-  pub state : model (r .state) ≡ after (model p) x
-  pub invariant : Inv (r .state)
-
--- ---- the calls that entries stand for
-
--- the calls of an entry
-unfoldable pub callsIn : Replica → Entry → List Call
-callsIn r (one c) = c ∷ []
-callsIn r allDue = dueCalls (owedShown r) (r .book)
-
--- the calls of all entries
-unfoldable pub callsOf : Replica → List Entry → List Call
-callsOf r [] = []
-callsOf r (x ∷ xs) = callsIn r x ++ callsOf (after r x) xs
-
 -- ---- the answers
 
 -- no message
@@ -182,9 +156,3 @@ tight s out = ltb (length out / answerSize) (callCount s)
 -- the entries that are run: all, or none where there is no room for the answers
 unfoldable pub entriesRun : List ℕ → List ℕ → List Entry
 entriesRun s out = cond {A = List Entry} (tight s out) [] (entriesOf s)
-
--- the entries of s were run on p: q is the state after them, and out′ is out with their answers at its front
-pub record RanAll (p : State) (s out out′ : List ℕ) (q : State) : Type 0 where
-  pub state : model q ≡ runEntries (model p) (entriesOf s)
-  pub answers : out′ ≡ sets out 0 (answersBytes (model p) (entriesOf s))
-  pub invariant : Inv q

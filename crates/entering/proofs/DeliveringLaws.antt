@@ -5,7 +5,8 @@ use mathlib.Core.Path.{_≡_, refl, sym, ap, _∙_}
 use mathlib.Core.Bool.{Bool, true, false, cond}
 use mathlib.Core.Option.{Option, none, some}
 use Rattle.request.specs.declared.Request.{Request}
-use Rattle.numbers.specs.Numbers.{mostPanels, GoodNumber, badNumber, slotOf, noNumber}
+use Rattle.numbers.specs.Numbers.{mostPanels, badNumber, noNumber}
+use Rattle.numbers.specs.internal.Slots.{GoodNumber, slotOf}
 use Rattle.request.specs.Asked.{badAsked}
 use Rattle.sets.specs.Sets.{member}
 use Rattle.request.specs.Request.{sameRequest, badContext}

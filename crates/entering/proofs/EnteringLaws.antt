@@ -20,7 +20,8 @@ use Rattle.lists.proofs.PlaceLaws.{leading-most, insert-place, take-insertAt, d
 use Rattle.numbers.specs.declared.Clock.{Clock}
 use Rattle.sets.specs.declared.Context.{Context}
 use Rattle.request.specs.declared.Request.{Request}
-use Rattle.numbers.specs.Numbers.{mostPanels, sameNumber, slotOf, numberOf}
+use Rattle.numbers.specs.Numbers.{mostPanels, sameNumber}
+use Rattle.numbers.specs.internal.Slots.{slotOf, numberOf}
 use Rattle.sets.specs.Sets.{setOf, member, join}
 use Rattle.request.specs.Order.{before}
 use Rattle.request.specs.Request.{sameRequest}

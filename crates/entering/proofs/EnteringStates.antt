@@ -5,7 +5,8 @@ use lib.ListN.{length}
 use Rattle.lists.proofs.ListLaws.{one-zero}
 use Rattle.numbers.specs.declared.Number.{Number}
 use Rattle.request.specs.declared.Request.{Request}
-use Rattle.numbers.specs.Numbers.{mostPanels, GoodNumber}
+use Rattle.numbers.specs.Numbers.{mostPanels}
+use Rattle.numbers.specs.internal.Slots.{GoodNumber}
 use Rattle.sets.specs.Sets.{member}
 use Rattle.numbers.proofs.NumberLaws.{good-number}
 use Rattle.creek.proofs.HeldLaws.{good-request, widened, held-few}

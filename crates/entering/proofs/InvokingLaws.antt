@@ -14,7 +14,8 @@ use Rattle.sets.specs.declared.Context.{Context}
 use Rattle.numbers.specs.declared.Clock.{Clock}
 use Rattle.numbers.specs.declared.Number.{Number}
 use Rattle.request.specs.declared.Request.{Request}
-use Rattle.numbers.specs.Numbers.{eventNo, clockReading, sameNumber, mostPanels, mostEvents, GoodNumber, slotOf, numberOf, noNumber}
+use Rattle.numbers.specs.Numbers.{eventNo, clockReading, sameNumber, mostPanels, mostEvents, noNumber}
+use Rattle.numbers.specs.internal.Slots.{GoodNumber, slotOf, numberOf}
 use Rattle.request.specs.Asked.{badAsked}
 use Rattle.sets.specs.Sets.{emptySet, member, join, leave}
 use Rattle.request.specs.Order.{before}

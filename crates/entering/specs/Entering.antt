@@ -8,7 +8,8 @@ use lib.ListN.{length}
 use Rattle.lists.specs.Lists.{keep}
 use Rattle.numbers.specs.declared.Clock.{Clock}
 use Rattle.numbers.specs.declared.Number.{Number}
-use Rattle.numbers.specs.Numbers.{mostPanels, GoodNumber, slotOf}
+use Rattle.numbers.specs.Numbers.{mostPanels}
+use Rattle.numbers.specs.internal.Slots.{GoodNumber, slotOf}
 use Rattle.sets.specs.declared.Context.{Context}
 use Rattle.sets.specs.Sets.{setOf, emptySet, member}
 use Rattle.request.specs.declared.Request.{Request}

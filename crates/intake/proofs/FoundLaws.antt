@@ -8,7 +8,8 @@ use lib.ListN.{length}
 use Rattle.wire.specs.Layout.{leastMessage}
 use Rattle.wire.specs.Reader.{Outcome, message, end, refused, answered, readAt}
 use Rattle.wire.proofs.RoundTrip.{taken-least, taken-inside}
-use Rattle.intake.specs.Found.{passed, takenOf, found, foundFrom}
+use Rattle.intake.specs.Found.{passed, found, foundFrom}
+use Rattle.intake.specs.internal.Passing.{takenOf}
 
 -- how many bytes an outcome takes where so many are left
 abbrev pub bytesOf : Outcome → ℕ → ℕ

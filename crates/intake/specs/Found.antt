@@ -2,9 +2,6 @@
 use Prim.Native.Nat.{ℕ, zero, suc, _-_}
 use mathlib.Core.List.{List, [], _∷_}
 use lib.ListN.{length}
-use Rattle.wire.specs.declared.Reading.{Reading}
-use Rattle.wire.specs.declared.ReadAnswer.{ReadAnswer}
-use Rattle.wire.specs.declared.ReadAnswer.the-variants.{Message as aMessage, End, Refused}
 use Rattle.wire.specs.Reader.{Outcome, message, end, refused, readAt}
 
 -- how many of the bytes left are passed over behind the first byte of what is found: the rest of a message, or all of them, since what
@@ -13,15 +10,6 @@ abbrev pub passed : Outcome → ℕ → ℕ
 passed (message m n) left = n - 1
 passed end left = left
 passed (refused w) left = left
-
--- the same of what the reader answered, from its first byte on
-abbrev pub takenBy : ReadAnswer → ℕ → ℕ → ℕ
-takenBy aMessage taken left = taken
-takenBy End taken left = left
-takenBy (Refused w) taken left = left
-
-abbrev pub takenOf : Reading → ℕ → ℕ
-takenOf r left = takenBy (r .answer) (r .taken) left
 
 -- what is found in the `left` bytes of s from `at` on, of which the first `skip` are passed over
 unfoldable pub found : List ℕ → ℕ → ℕ → ℕ → List Outcome

@@ -5,7 +5,8 @@
 use numbers::Number;
 use sets::Context;
 ghost use mathlib.Core.Path.{_≡_};
-ghost use Rattle.numbers.specs.Numbers.{mostPanels, GoodNumber};
+ghost use Rattle.numbers.specs.Numbers.{mostPanels};
+ghost use Rattle.numbers.specs.internal.Slots.{GoodNumber};
 ghost use Rattle.sets.specs.Sets.{maskOf, join as joined, leave as left};
 
 // The word in which only n's bit is set.

@@ -8,7 +8,8 @@ use lib.Dec.{ltb}
 use borrow.Author.Tests.{ltb-true, ltb-false, eq-eqb, ne-eqb, lt-ltb, le-ltb}
 use Rattle.lists.proofs.BoolLaws.{true-not-false, same-test}
 use Rattle.numbers.specs.declared.Number.{Number}
-use Rattle.numbers.specs.Numbers.{mostPanels, GoodNumber, slotOf}
+use Rattle.numbers.specs.Numbers.{mostPanels}
+use Rattle.numbers.specs.internal.Slots.{GoodNumber, slotOf}
 use Rattle.numbers.specs.Lexicographic.{lexicographic}
 
 pub lexicographic-less : (a b : ℕ) (t : Bool) → a < b → lexicographic a b t ≡ true

@@ -6,7 +6,8 @@ use mathlib.Core.Path.{_≡_, refl, sym, ap, _∙_}
 use mathlib.Core.Bool.{true, false, not}
 use borrow.Author.Tests.{ltb-true, leb-true, lt-ltb, le-leb, eqb-true, eq-eqb, not-false}
 use Rattle.numbers.specs.declared.Number.{Number}
-use Rattle.numbers.specs.Numbers.{sameNumber, mostPanels, mostEvents, badNumber, GoodNumber, slotOf, numberOf}
+use Rattle.numbers.specs.Numbers.{sameNumber, mostPanels, mostEvents, badNumber}
+use Rattle.numbers.specs.internal.Slots.{GoodNumber, slotOf, numberOf}
 use Rattle.lists.proofs.BoolLaws.{both-true, both, neither-true, neither, same-test}
 
 -- ---- good numbers

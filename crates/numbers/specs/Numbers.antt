@@ -1,5 +1,5 @@
--- Numbers of requests: equality, what makes one bad, and their places in a table of 512.
-use Prim.Native.Nat.{ℕ, _+_, _-_, _*_, _/_, _%_, _≤_, _<_}
+-- Numbers of requests: equality, and what makes one bad. Their places in a table of 512 are in `internal/Slots`.
+use Prim.Native.Nat.{ℕ}
 use mathlib.Core.Bool.{Bool, not, _&&_, _||_}
 use lib.Dec.{ltb, leb, eqb}
 use Rattle.numbers.specs.declared.PanelNo.{PanelNo}
@@ -40,17 +40,3 @@ mostEvents = 64
 -- bad number (refusal 2), in a shop of p panels: panel not below p, or event not 1 to 64
 unfoldable pub badNumber : ℕ → Number → Bool
 badNumber p n = not (ltb (n .panel .0) p) || not (leb 1 (n .event .0) && leb (n .event .0) mostEvents)
-
--- the same as a fact: a good number in a shop of p panels
-pub record GoodNumber (p : ℕ) (n : Number) : Type 0 where
-  pub panel : n .panel .0 < p
-  pub least : 1 ≤ n .event .0
-  pub most : n .event .0 ≤ mostEvents
-
--- the slot of n, its place in a table of 512
-unfoldable pub slotOf : Number → ℕ
-slotOf n = n .panel .0 * mostEvents + (n .event .0 - 1)
-
--- the number whose slot is s; a slot past the table counts round
-unfoldable pub numberOf : ℕ → Number
-numberOf s = numbered (s / mostEvents % mostPanels) (s % mostEvents + 1)

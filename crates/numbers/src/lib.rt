@@ -3,7 +3,8 @@
 //
 // Each contract gives the result by the definition of the same name in `specs/`; their laws are in `proofs/`.
 ghost use mathlib.Core.Path.{_≡_};
-ghost use Rattle.numbers.specs.Numbers.{noNumber, sameNumber, badNumber, slotOf, numberOf};
+ghost use Rattle.numbers.specs.Numbers.{noNumber, sameNumber, badNumber};
+ghost use Rattle.numbers.specs.internal.Slots.{slotOf, numberOf};
 
 // A panel of the shop, counted from 0.
 #[repr(C)]

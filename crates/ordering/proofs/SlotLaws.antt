@@ -19,7 +19,8 @@ use Rattle.lists.proofs.StartLaws.{commonStart-from, commonStart-until}
 use Rattle.lists.proofs.StepLaws.{keep-taken, keep-passed, keep-end}
 use Rattle.sets.specs.declared.Context.{Context}
 use Rattle.request.specs.declared.Request.{Request}
-use Rattle.numbers.specs.Numbers.{sameNumber, mostPanels, mostEvents, GoodNumber, numberOf, slotOf}
+use Rattle.numbers.specs.Numbers.{sameNumber, mostPanels, mostEvents}
+use Rattle.numbers.specs.internal.Slots.{GoodNumber, numberOf, slotOf}
 use Rattle.request.specs.Order.{before}
 use Rattle.sets.specs.Sets.{member, leave}
 use Rattle.numbers.proofs.NumberLaws.{sameNumber-sound, sameNumber-self, slot-of-number, number-of-good, number-good}

@@ -8,7 +8,8 @@ use lib.Seq.{slice}
 use lib.Dec.{ltb}
 use Rattle.lists.specs.Places.{All}
 use Rattle.sets.specs.declared.Context.{Context}
-use Rattle.numbers.specs.Numbers.{mostPanels, mostEvents, numberOf}
+use Rattle.numbers.specs.Numbers.{mostPanels, mostEvents}
+use Rattle.numbers.specs.internal.Slots.{numberOf}
 use Rattle.numbers.specs.Lexicographic.{lexicographic}
 use Rattle.sets.specs.Sets.{bit, leave}
 

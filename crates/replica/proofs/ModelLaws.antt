@@ -12,7 +12,7 @@ use Rattle.lists.specs.Lists.{count}
 use Rattle.lists.specs.Places.{All}
 use Rattle.numbers.specs.declared.Number.{Number}
 use Rattle.request.specs.declared.Request.{Request}
-use Rattle.numbers.specs.Numbers.{slotOf}
+use Rattle.numbers.specs.internal.Slots.{slotOf}
 use Rattle.numbers.proofs.NumberLaws.{slot-of-number}
 use Rattle.slots.specs.Slots.{mostSlots, IsSlot, PartsAsk}
 use Rattle.creek.specs.Plan.{order, hasNumber}

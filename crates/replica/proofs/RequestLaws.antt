@@ -16,7 +16,8 @@ use Rattle.lists.proofs.AllLaws.{all-weaken}
 use Rattle.lists.proofs.MapLaws.{count-map, count-agree, find-map, find-agree}
 use Rattle.numbers.specs.declared.Number.{Number}
 use Rattle.request.specs.declared.Request.{Request}
-use Rattle.numbers.specs.Numbers.{sameNumber, mostPanels, GoodNumber, slotOf, numberOf}
+use Rattle.numbers.specs.Numbers.{sameNumber, mostPanels}
+use Rattle.numbers.specs.internal.Slots.{GoodNumber, slotOf, numberOf}
 use Rattle.sets.specs.Sets.{member}
 use Rattle.request.specs.Request.{sameRequest}
 use Rattle.numbers.proofs.NumberLaws.{sameNumber-self, slot-fits, number-of-slot}

@@ -7,7 +7,8 @@ use mathlib.Core.Bool.{true, false}
 use mathlib.Core.Logic.{_⊎_, inl, inr}
 use lib.Dec.{ltb}
 use borrow.Author.Tests.{ltb-true, ltb-false, lt-ltb, le-ltb}
-use Rattle.numbers.specs.Numbers.{sameNumber, mostPanels, GoodNumber, slotOf}
+use Rattle.numbers.specs.Numbers.{sameNumber, mostPanels}
+use Rattle.numbers.specs.internal.Slots.{GoodNumber, slotOf}
 use Rattle.numbers.specs.Lexicographic.{lexicographic}
 use Rattle.numbers.proofs.NumberLaws.{sameNumber-of}
 use Rattle.numbers.proofs.LexicographicLaws.{compared, lexicographic-less, lexicographic-equal, lexicographic-transitive}

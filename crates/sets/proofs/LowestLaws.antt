@@ -11,7 +11,8 @@ use lib.Dec.{ltb, eqb}
 use borrow.Author.Tests.{eqb-true, eqb-false, ltb-true, not-true}
 use Rattle.sets.specs.declared.Context.{Context}
 use Rattle.numbers.specs.declared.Number.{Number}
-use Rattle.numbers.specs.Numbers.{numbered, mostPanels, mostEvents, GoodNumber}
+use Rattle.numbers.specs.Numbers.{numbered, mostPanels, mostEvents}
+use Rattle.numbers.specs.internal.Slots.{GoodNumber}
 use Rattle.numbers.specs.Lexicographic.{lexicographic}
 use Rattle.sets.specs.Sets.{Words, allZero, isEmpty, bit, member, difference, subset, lowestFrom, lowest, lowestLacking}
 use Rattle.lists.proofs.BoolLaws.{true-not-false, both-true}

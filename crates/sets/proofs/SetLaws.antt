@@ -13,7 +13,8 @@ use lib.Dec.{eqb}
 use borrow.Author.Tests.{eq-eqb, eqb-true, eqb-false}
 use Rattle.sets.specs.declared.Context.{Context}
 use Rattle.numbers.specs.declared.Number.{Number}
-use Rattle.numbers.specs.Numbers.{numbered, sameNumber, mostPanels, mostEvents, badNumber, GoodNumber}
+use Rattle.numbers.specs.Numbers.{numbered, sameNumber, mostPanels, mostEvents, badNumber}
+use Rattle.numbers.specs.internal.Slots.{GoodNumber}
 use Rattle.sets.specs.Sets.{setOf, Words, emptySet, allZero, isEmpty, bit, wordFor, member, maskOf, join}
 use Rattle.sets.specs.Sets.{leave, lackedWords, difference, subset}
 use Rattle.lists.proofs.BoolLaws.{true-not-false, both-true, both, neither, same-test}

@@ -8,7 +8,8 @@ use lib.ListN.{getD}
 use Rattle.sets.specs.declared.Context.{Context}
 use Rattle.numbers.specs.declared.Number.{Number}
 use Rattle.request.specs.declared.Request.{Request}
-use Rattle.numbers.specs.Numbers.{badNumber, mostPanels, GoodNumber, slotOf}
+use Rattle.numbers.specs.Numbers.{badNumber, mostPanels}
+use Rattle.numbers.specs.internal.Slots.{GoodNumber, slotOf}
 use Rattle.sets.specs.Sets.{member}
 use Rattle.numbers.proofs.NumberLaws.{good-number, sameNumber-sound, number-of-slot, slot-fits}
 use Rattle.lists.specs.Lists.{find}

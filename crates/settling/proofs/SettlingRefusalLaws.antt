@@ -7,7 +7,8 @@ use mathlib.Core.Option.{some}
 use lib.Dec.{eqb}
 use borrow.Author.Tests.{not-false}
 use Rattle.numbers.specs.declared.Number.{Number}
-use Rattle.numbers.specs.Numbers.{noNumber, badNumber, slotOf}
+use Rattle.numbers.specs.Numbers.{noNumber, badNumber}
+use Rattle.numbers.specs.internal.Slots.{slotOf}
 use Rattle.sets.specs.Sets.{member, subset, lowestLacking}
 use Rattle.request.specs.Refusal as refused
 use Rattle.lists.specs.Lists.{find}

@@ -39,7 +39,8 @@ use Rattle.sheet.specs.declared.Heard.{Heard}
 use Rattle.sheet.specs.declared.Ended.{Ended}
 use Rattle.wire.proofs.HeldLaws.{said-settlement, said-request}
 use Rattle.intake.specs.Intake.{callOf}
-use Rattle.intake.specs.Found.{takenOf, foundFrom}
+use Rattle.intake.specs.Found.{foundFrom}
+use Rattle.intake.specs.internal.Passing.{takenOf}
 use Rattle.intake.proofs.ReadingLaws.{message-only, end-only, refused-only}
 use Rattle.intake.proofs.FoundLaws.{bytesOf, Takes, whole, all, takes, taken-within, one-found, none-found}
 use Rattle.creek.specs.History.{idled}

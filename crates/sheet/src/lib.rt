@@ -22,7 +22,7 @@ ghost use Rattle.report.specs.Sizes.{mostMessageBytes, mostTotalsBytes, mostReg
 ghost use Rattle.replica.specs.State.{packed};
 ghost use Rattle.replica.specs.internal.Model.{model, Inv};
 ghost use Rattle.wire.specs.Message.{said};
-ghost use Rattle.intake.specs.Found.{takenOf};
+ghost use Rattle.intake.specs.internal.Passing.{takenOf};
 ghost use Rattle.printed.specs.Printout.{shopBytes, mostMessages, mostInput, mostPrinted};
 ghost use Rattle.sheet.specs.Putting.{TakenIn, HeardAs, MessageLinePut, LinePut, AllPut};
 ghost use Rattle.sheet.specs.Putting.{ClosingAsks, ClosingPut, Opens, PrintoutPut, Printed};

@@ -4,7 +4,8 @@ use mathlib.Core.Path.{_≡_}
 use mathlib.Core.Bool.{not, _||_}
 use Rattle.sets.specs.declared.Context.{Context}
 use Rattle.sets.specs.Sets.{member}
-use Rattle.numbers.specs.Numbers.{sameNumber, numberOf}
+use Rattle.numbers.specs.Numbers.{sameNumber}
+use Rattle.numbers.specs.internal.Slots.{numberOf}
 use Rattle.ordering.specs.Slots.{IsSlot}
 use Rattle.slots.specs.Settlement.{stays}
 pub use Rattle.ordering.proofs.SlotLaws.{part-of, part-slot, same-slot, in-words-member, common-from, common-until, comes-before-order}

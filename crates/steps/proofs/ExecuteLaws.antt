@@ -16,7 +16,7 @@ use Rattle.numbers.specs.declared.Number.{Number}
 use Rattle.request.specs.declared.Operation.{Operation}
 use Rattle.request.specs.declared.Asked.{Asked}
 use Rattle.request.specs.declared.Request.{Request}
-use Rattle.numbers.specs.Numbers.{numberOf}
+use Rattle.numbers.specs.internal.Slots.{numberOf}
 use Rattle.sets.specs.Sets.{setOf, member}
 use Rattle.request.specs.Refusal as refused
 use Rattle.numbers.proofs.NumberLaws.{sameNumber-self}

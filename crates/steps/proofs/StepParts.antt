@@ -6,7 +6,8 @@ use mathlib.Core.List.{List}
 use lib.ListN.{getD}
 use Rattle.counters.specs.declared.Counters.{Counters}
 use Rattle.counters.specs.Counted.{undosCounted, executionsCounted}
-use Rattle.numbers.specs.Numbers.{noNumber, numberOf}
+use Rattle.numbers.specs.Numbers.{noNumber}
+use Rattle.numbers.specs.internal.Slots.{numberOf}
 use Rattle.request.specs.declared.Asked.{Asked}
 use Rattle.request.specs.Refusal as refused
 use Rattle.registers.specs.declared.Saved.{Saved}

@@ -7,7 +7,7 @@ use mathlib.Core.List.{List}
 use lib.ListN.{getD}
 use lib.Seq.{take-take}
 use Rattle.lists.proofs.AllLaws.{all-take}
-use Rattle.numbers.specs.Numbers.{numberOf}
+use Rattle.numbers.specs.internal.Slots.{numberOf}
 use Rattle.request.specs.Refusal as refused
 use Rattle.registers.specs.Rollback.{restored}
 use Rattle.slots.specs.Slots.{IsSlot}

@@ -7,7 +7,7 @@ use lib.ListN.{getD, set}
 use lib.Dec.{ltb}
 use Rattle.counters.specs.declared.Counters.{Counters}
 use Rattle.counters.specs.Counted.{undosCounted, executionsCounted}
-use Rattle.numbers.specs.Numbers.{numberOf}
+use Rattle.numbers.specs.internal.Slots.{numberOf}
 use Rattle.sets.specs.Sets.{setOf, member}
 use Rattle.registers.specs.Rollback.{savedIn, restored}
 use Rattle.slots.specs.Slots.{mostSlots, IsSlot}

@@ -7,7 +7,8 @@ use mathlib.Core.List.{List}
 use lib.ListN.{length, getD, set, length-set}
 use lib.Seq.{getD-set-same, getD-set-other, sets, length-sets, slice}
 use Rattle.request.specs.declared.Request.{Request}
-use Rattle.numbers.specs.Numbers.{mostPanels, numberOf}
+use Rattle.numbers.specs.Numbers.{mostPanels}
+use Rattle.numbers.specs.internal.Slots.{numberOf}
 use Rattle.numbers.proofs.LexicographicLaws.{compared}
 use Rattle.slots.specs.Slots.{IsSlot}
 use Rattle.store.specs.Requests.{WordAs, askedIn, contextAt, requestAt, Long, Stored}

@@ -9,7 +9,8 @@ use Rattle.lists.specs.Lists.{one}
 use Rattle.sets.specs.declared.Context.{Context}
 use Rattle.request.specs.declared.Asked.{Asked}
 use Rattle.request.specs.declared.Request.{Request}
-use Rattle.numbers.specs.Numbers.{clockReading, mostPanels, numberOf}
+use Rattle.numbers.specs.Numbers.{clockReading, mostPanels}
+use Rattle.numbers.specs.internal.Slots.{numberOf}
 use Rattle.sets.specs.Sets.{setOf}
 use Rattle.slots.specs.Slots.{mostSlots}
 

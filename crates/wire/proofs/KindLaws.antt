@@ -25,7 +25,8 @@ use Rattle.wire.specs.Layout.{kindNumber, layout, kindWith, widthsWith, 
 use Rattle.wire.specs.Layout.{leastSize, mostSize, leastMessage, longestMessage}
 use Rattle.wire.specs.Message.{BusMessage, request, settlement, kindOf, spareByte, numberFields, bodyFields, frontOf, runOf, behindOf}
 use Rattle.wire.specs.Message.{contents, widthsOf, sizeOf, fieldsOf, requestFrom, messageFrom, weakWithContext, ContextWords, Fits}
-use Rattle.wire.specs.Reader.{runAt, fieldsAt, spareSet, LaidOut}
+use Rattle.wire.specs.Reader.{runAt, fieldsAt, spareSet}
+use Rattle.wire.specs.internal.LaidOut.{LaidOut}
 
 -- the message of this kind with the fields f has what stands there behind length and kind
 abbrev pub ContentsOf : Kind → List ℕ → Type 0

@@ -13,7 +13,8 @@ use Rattle.request.specs.Refusal as refusal
 use Rattle.wire.specs.declared.Kind.{Kind}
 use Rattle.wire.specs.Layout.{kindNumber, kindWith, layout, leastSize, mostSize, headSize}
 use Rattle.wire.specs.Message.{spareByte, messageFrom}
-use Rattle.wire.specs.Reader.{message, end, refused, lengthAt, kindAt, fieldsAt, spareSet, LaidOut}
+use Rattle.wire.specs.Reader.{message, end, refused, lengthAt, kindAt, fieldsAt, spareSet}
+use Rattle.wire.specs.internal.LaidOut.{LaidOut}
 use Rattle.wire.specs.Reader.{refusalAs, readAs, readWith, readAt}
 use Rattle.wire.proofs.LayoutLaws.{head-least}
 use Rattle.wire.proofs.KindLaws.{kind-laws}

@@ -23,7 +23,8 @@ use Rattle.wire.specs.Layout.{lengthField, kindField, headFields, headSi
 use Rattle.wire.specs.Message.{BusMessage, kindOf, runOf, contents, widthsOf, sizeOf, fieldsOf, bytesOf, messageFrom}
 use Rattle.wire.specs.Message.{weakWithContext, Fits}
 use Rattle.wire.specs.Reader.{Outcome, message, end, refused, answered}
-use Rattle.wire.specs.Reader.{lengthAt, kindAt, runAt, fieldsAt, spareSet, LaidOut, refusalAs, readAs, readAt}
+use Rattle.wire.specs.Reader.{lengthAt, kindAt, runAt, fieldsAt, spareSet, refusalAs, readAs, readAt}
+use Rattle.wire.specs.internal.LaidOut.{LaidOut}
 use Rattle.wire.specs.Writer.{writeRefusal, writeAnswer, afterWrite}
 use Rattle.parts.proofs.IntegerLaws.{Bytes}
 use Rattle.parts.proofs.WidthLaws.{fields-back, run-back, decode-within}

@@ -6,3 +6,4 @@ pub mod Message
 pub mod Reader
 pub mod Writer
 pub mod NeverClockBack
+pub mod internal

@@ -1,7 +1,6 @@
 -- What the reader answers at a place of a run of bytes: a message, the end, or a refusal.
-use Prim.Native.Nat.{ℕ, _-_, _≤_}
-use mathlib.Core.Path.{_≡_}
-use mathlib.Core.Bool.{Bool, false, not, cond}
+use Prim.Native.Nat.{ℕ, _-_}
+use mathlib.Core.Bool.{Bool, not, cond}
 use mathlib.Core.List.{List}
 use mathlib.Core.Option.{Option, none, some}
 use lib.ListN.{getD, length}
@@ -56,13 +55,6 @@ fieldsAt k s at = decode (widthsWith k (runAt k s at)) s at
 -- a spare byte of this kind is not 0 among those fields
 unfoldable pub spareSet : Kind → List ℕ → Bool
 spareSet k f = somePasses (λ p. not (eqb (getD f p spareByte) spareByte)) (layout k .spares)
-
--- a message of this kind is laid out at a place: its length is one of the kind's, it is whole, and no spare byte is set
-pub record LaidOut (k : Kind) (s : List ℕ) (at : ℕ) : Type 0 where
-  pub least : leastSize k ≤ lengthAt s at
-  pub most : lengthAt s at ≤ mostSize k
-  pub whole : lengthAt s at ≤ length s - at
-  pub clear : spareSet k (fieldsAt k s at) ≡ false
 
 -- the refusal of a message of this kind at a place, in document 01's order: bad length, cut short, spare set
 unfoldable pub refusalAs : Kind → List ℕ → ℕ → ℕ

@@ -1,15 +1,14 @@
 -- What the writer answers, and the lent bytes afterwards.
-use Prim.Native.Nat.{ℕ, _≤_}
+use Prim.Native.Nat.{ℕ}
 use mathlib.Core.Path.{_≡_}
 use mathlib.Core.Bool.{cond}
 use mathlib.Core.List.{List, _++_}
 use lib.ListN.{length, drop}
 use lib.Dec.{ltb, eqb}
 use Rattle.request.specs.Refusal as refusal
-use Rattle.wire.specs.declared.Kind.{Kind}
 use Rattle.wire.specs.declared.Message.{Message}
 use Rattle.wire.specs.declared.Written.{Written}
-use Rattle.wire.specs.Message.{BusMessage, kindOf, sizeOf, bytesOf, weakWithContext, Fits, said}
+use Rattle.wire.specs.Message.{BusMessage, sizeOf, bytesOf, weakWithContext, Fits, said}
 
 -- the refusal of a message where there is room for so many bytes, in document 01's order: bad context, no room
 unfoldable pub writeRefusal : BusMessage → ℕ → ℕ
@@ -29,12 +28,6 @@ writeAnswer m room =
 -- the lent bytes afterwards: the message at their front, or no change where it is refused
 unfoldable pub afterWrite : BusMessage → List ℕ → List ℕ
 afterWrite m out = cond (eqb (writeRefusal m (length out)) refusal.accepted) (bytesOf m ++ drop (sizeOf m) out) out
-
--- k and n are the kind and the size of the held message m, for which out has room
-pub record PutAsks (m : Message) (k : Kind) (n : ℕ) (out : List ℕ) : Type 0 where
-  pub kind : k ≡ kindOf (said m)
-  pub size : n ≡ sizeOf (said m)
-  pub room : n ≤ length out
 
 -- what the writer does with the held message m, where the lent bytes were out and are out′
 pub record Wrote (m : Message) (out out′ : List ℕ) (r : Written) : Type 0 where

@@ -16,7 +16,8 @@ ghost use lib.ListN.{length as len};
 ghost use Rattle.wire.specs.Layout.{leastSize, headSize};
 ghost use Rattle.wire.specs.Message.{messageFrom, held as heldFor};
 ghost use Rattle.wire.specs.Reader.{answered, untaken as untakenBy, refusalOf};
-ghost use Rattle.wire.specs.Reader.{lengthAt, fieldsAt, spareSet, LaidOut, refusalAs, readAs, readAt};
+ghost use Rattle.wire.specs.Reader.{lengthAt, fieldsAt, spareSet, refusalAs, readAs, readAt};
+ghost use Rattle.wire.specs.internal.LaidOut.{LaidOut};
 
 // The message at a place with the bytes taken; the end, where no byte is left; or a refusal, which takes nothing.
 pub fn read(s: &[u8], at: usize) -> Reading

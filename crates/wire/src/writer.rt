@@ -17,7 +17,8 @@ ghost use lib.ListN.{length};
 ghost use lib.Seq.{sets as put};
 ghost use Rattle.wire.specs.Layout.{kindNumber, headWidths, headSize, encode};
 ghost use Rattle.wire.specs.Message.{request as requestMessage, said, bytesOf, weakWithContext};
-ghost use Rattle.wire.specs.Writer.{Wrote, PutAsks};
+ghost use Rattle.wire.specs.Writer.{Wrote};
+ghost use Rattle.wire.specs.internal.PutAsks.{PutAsks};
 
 // Writes m at the front of out: exactly its bytes, or nothing where it is refused.
 pub fn write(out: &mut [u8], m: Message) -> Written

@@ -2,7 +2,7 @@
 use native.Mathlib.Omega.{arith}
 use mathlib.Core.Path.{sym, ap, subst, _∙_}
 use Rattle.request.specs.declared.Request.{Request}
-use Rattle.numbers.specs.Numbers.{slotOf}
+use Rattle.numbers.specs.internal.Slots.{slotOf}
 use Rattle.creek.specs.Replies.{spread}
 use Rattle.replica.specs.State.{State}
 use Rattle.replica.specs.internal.Model.{Inv}

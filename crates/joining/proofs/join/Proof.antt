@@ -3,7 +3,8 @@ use borrow.Author.Needs.{needs}
 use native.Mathlib.Omega.{arith}
 use mathlib.Core.Path.{_≡_, sym, _∙_}
 use mathlib.Core.Bool.{false}
-use Rattle.numbers.specs.Numbers.{mostPanels, badNumber, GoodNumber}
+use Rattle.numbers.specs.Numbers.{mostPanels, badNumber}
+use Rattle.numbers.specs.internal.Slots.{GoodNumber}
 use Rattle.sets.specs.Sets.{join}
 use Rattle.numbers.proofs.NumberLaws.{good-number}
 use Rattle.joining.proofs.join.Statement.{statement}

@@ -4,7 +4,8 @@ use native.Mathlib.Omega.{arith}
 use mathlib.Core.Path.{_≡_, sym, _∙_}
 use mathlib.Core.Bool.{true}
 use borrow.Author.Tests.{not-true, not-false}
-use Rattle.numbers.specs.Numbers.{mostPanels, GoodNumber}
+use Rattle.numbers.specs.Numbers.{mostPanels}
+use Rattle.numbers.specs.internal.Slots.{GoodNumber}
 use Rattle.sets.specs.Sets.{member, leave}
 use Rattle.numbers.proofs.NumberLaws.{good-number}
 use Rattle.sets.proofs.SetLaws.{member-good}

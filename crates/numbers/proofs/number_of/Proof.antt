@@ -1,6 +1,6 @@
 -- `numbers::number_of` meets its contract: what it computes is the definition as it stands.
 use mathlib.Core.Path.{refl}
-use Rattle.numbers.specs.Numbers.{numberOf}
+use Rattle.numbers.specs.internal.Slots.{numberOf}
 use borrow.Author.Needs.{needs}
 use Rattle.numbers.proofs.number_of.Statement.{statement}
 use Rattle.numbers.proofs.number_of.Tie as tie

@@ -1,6 +1,6 @@
 -- `numbers::slot_of` meets its contract: what it computes is the definition as it stands.
 use native.Mathlib.Omega.{arith}
-use Rattle.numbers.specs.Numbers.{slotOf}
+use Rattle.numbers.specs.internal.Slots.{slotOf}
 use borrow.Author.Needs.{needs}
 use Rattle.numbers.proofs.slot_of.Statement.{statement}
 use Rattle.numbers.proofs.slot_of.Tie as tie

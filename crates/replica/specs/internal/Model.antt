@@ -9,7 +9,8 @@ use lib.Dec.{eqb}
 use Rattle.numbers.specs.declared.Number.{Number}
 use Rattle.request.specs.declared.Operation.{Operation}
 use Rattle.request.specs.declared.Request.{Request}
-use Rattle.numbers.specs.Numbers.{mostPanels, numberOf}
+use Rattle.numbers.specs.Numbers.{mostPanels}
+use Rattle.numbers.specs.internal.Slots.{numberOf}
 use Rattle.request.specs.Operations.{noOperation}
 use Rattle.sets.specs.Sets.{member}
 use Rattle.registers.specs.declared.Saved.{Saved}

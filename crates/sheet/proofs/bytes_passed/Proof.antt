@@ -2,7 +2,7 @@
 use Prim.Native.Nat.{ℕ}
 use mathlib.Core.Path.{sym, ap}
 use Rattle.wire.specs.declared.ReadAnswer.{ReadAnswer}
-use Rattle.intake.specs.Found.{takenBy}
+use Rattle.intake.specs.internal.Passing.{takenBy}
 use borrow.Author.Needs.{needs}
 use Rattle.sheet.proofs.bytes_passed.Statement.{statement}
 use Rattle.sheet.proofs.bytes_passed.Tie as tie

@@ -8,7 +8,7 @@ use Rattle.wire.specs.declared.Kind.{Kind}
 use Rattle.wire.specs.declared.Kind.the-variants.{Weak, Strong, Settlement}
 use Rattle.wire.specs.Layout.{layout, widthsWith, leastSize, decode}
 use Rattle.wire.specs.Message.{messageFrom}
-use Rattle.wire.specs.Reader.{LaidOut}
+use Rattle.wire.specs.internal.LaidOut.{LaidOut}
 use Rattle.wire.proofs.KindLaws.{runless}
 use Rattle.wire.proofs.ReaderLaws.{laid-inside}
 use borrow.Author.Needs.{needs}

@@ -1,0 +1,2 @@
+-- What only the panel's memory and proofs cite.
+pub mod Slots

@@ -1,0 +1,3 @@
+-- What only functions within the crate and proofs cite.
+pub mod LaidOut
+pub mod PutAsks
