@@ -1,11 +1,12 @@
 -- The ● cases, the readings of document 02, the faults that a panel could hide, and that the bound is reached: by computation.
 use mathlib.Core.Path.{_≡_, refl}
 use mathlib.Core.List.{map}
+use lib.Count.{trailingZeros}
 use Rattle.numbers.specs.Numbers.{sameNumber, badNumber}
 use Rattle.request.specs.Operations.{sameOperation, badOperation}
 use Rattle.request.specs.Asked.{sameAsked, badAsked}
 use Rattle.sets.specs.Sets.{sameWords, sameContext, allZero, isEmpty, namesFrom, bit, member, join, leave}
-use Rattle.sets.specs.Sets.{lackedWords, difference, subset}
+use Rattle.sets.specs.Sets.{lackedWords, difference, subset, lowestFrom, lowest, lowestLacking}
 use Rattle.request.specs.Order.{before}
 use Rattle.request.specs.Request.{sameRequest, badContext}
 use Rattle.registers.specs.Effect.{offBoard, added, claimed, amountMoved, moved, firstHeld, lowestHeld, allSet, allClaimed}
@@ -19,11 +20,12 @@ use Rattle.creek.specs.Replies.{responseOn, responseIn, executionMark, e
 use Rattle.creek.specs.Replies.{settlementReply, stableReplyDue, namedByRefusal, answerOf, acceptedAwaiting}
 use Rattle.creek.specs.Calls.{badShop, freshRefusal, fresh, accept, step}
 use Rattle.creek.specs.History.{run, afterDueSteps}
-use Rattle.creek.specs.Showing.{registerShown}
+use Rattle.creek.specs.Showing.{registerRefusal, registerShown, placeRefusal, placeShown}
 use Rattle.creek.specs.Demand.{mostUndos}
 use Rattle.creek.specs.examples.Notation.{Case, onRegisters, onBoard, answers, spreads, eventsAndClocks, numbers, driven}
 use Rattle.creek.specs.examples.Cases.{standing, worked, afterWorked, nineNineEight, cases}
 use Rattle.creek.specs.examples.Faults.{strongHeard, twiceChanged, overtaken, falling, overtaking, faults, reaching}
+use Rattle.creek.specs.examples.Answers.{requestFields, answerFields, told, answerCases, registerAt, placeAt, counts, bothHeld, shownCases}
 use Rattle.creek.specs.examples.Readings.{madeAndHeard, readings, sumAfter, moveReadings}
 
 pub edge-cases : map (λ (c : Case). c .computed) cases ≡ map (λ (c : Case). c .said) cases
@@ -35,6 +37,27 @@ unfolding cases standing worked afterWorked nineNineEight onRegisters onBoard an
     accepted acceptedAnswer settlementReply stableReplyDue namedByRefusal answerOf acceptedAwaiting badShop fresh accept step run
     afterDueSteps registerShown
 edge-cases = refl
+
+-- each kind of answer, in every field
+pub answers-told : map (λ (c : Case). c .computed) answerCases ≡ map (λ (c : Case). c .said) answerCases
+unfolding answerCases told answerFields requestFields answers freshRefusal sameNumber badNumber sameOperation badOperation sameAsked badAsked sameWords sameContext allZero
+    isEmpty namesFrom bit member join leave lackedWords difference subset lowestFrom lowest lowestLacking trailingZeros before sameRequest badContext
+    offBoard added claimed amountMoved moved exec response replayOn replay lastEvent lastClock entered without atLeast made committing
+    committingFound invokeRefusal deliverRefusal commitRefusal registers adjusted undone undoRefusal executedNext executeRefusal refusal
+    accepted responseOn responseIn executionMark executionReply undoReply acceptedAnswer settlementReply stableReplyDue namedByRefusal
+    answerOf acceptedAwaiting badShop fresh accept step run
+answers-told = refl
+
+-- what each showing call shows
+pub shown-told : map (λ (c : Case). c .computed) shownCases ≡ map (λ (c : Case). c .said) shownCases
+unfolding shownCases bothHeld registerAt placeAt counts requestFields driven sameNumber badNumber sameOperation badOperation sameAsked badAsked sameWords sameContext allZero
+    isEmpty namesFrom bit member join leave lackedWords difference subset lowestFrom lowest lowestLacking before sameRequest badContext
+    offBoard added claimed amountMoved moved exec response replayOn replay lastEvent lastClock entered without atLeast made committing
+    committingFound invokeRefusal deliverRefusal commitRefusal registers adjusted undone undoRefusal executedNext executeRefusal refusal
+    accepted responseOn responseIn executionMark executionReply undoReply acceptedAnswer settlementReply stableReplyDue namedByRefusal
+    answerOf acceptedAwaiting badShop fresh accept step run afterDueSteps registerRefusal
+    registerShown placeRefusal placeShown
+shown-told = refl
 
 -- each reading chosen is what is computed
 pub readings-told : map (λ (c : Case). c .computed) readings ≡ map (λ (c : Case). c .said) readings

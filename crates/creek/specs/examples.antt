@@ -1,6 +1,7 @@
 -- Worked examples.
 pub mod Notation
 pub mod Cases
+pub mod Answers
 pub mod Faults
 pub mod Readings
 pub mod Pairs

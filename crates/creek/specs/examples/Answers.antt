@@ -1,0 +1,146 @@
+-- A case for each kind of answer, in every field, and for each showing call at its first, last and refused arguments: what the definitions
+-- compute beside what document 01 says. That the two are equal is `answers-told` and `shown-told` in `proofs/Cases`.
+use Prim.Native.Nat.{ℕ}
+use mathlib.Core.List.{List, [], _∷_, _++_}
+use lib.ListN.{replicate}
+use Rattle.lists.specs.Lists.{one}
+use Rattle.numbers.specs.Numbers.{mostPanels, numbered}
+use Rattle.sets.specs.Sets.{emptySet, join}
+use Rattle.request.specs.declared.Request.{Request}
+use Rattle.request.specs.Operations.{codeSet, codeAdd, codeClaim}
+use Rattle.request.specs.Refusal as refused
+use Rattle.creek.specs.declared.Answer.{Answer}
+use Rattle.creek.specs.Book.{Call, deliver, commit, undo, execute}
+use Rattle.creek.specs.Replies.{noMark, weakMark, tentativeMark, stableMark}
+use Rattle.creek.specs.Calls.{Replica, freshRefusal, fresh, answer}
+use Rattle.creek.specs.History.{run}
+use Rattle.creek.specs.Showing.{registerRefusal, registerShown, requestsShown, commitsShown, undosShown, executionsShown, owedShown}
+use Rattle.creek.specs.Showing.{placeRefusal, placeShown}
+use Rattle.creek.specs.examples.Notation.{Case, case, read, setTo, add, claim, move, weak, strong, make, makeStrong, answers, driven}
+
+-- ---- every field of a request and of an answer
+
+-- number, clock, operation, strength, context
+unfoldable pub requestFields : Request → List ℕ
+requestFields x =
+    x .number .panel .0 ∷ x .number .event .0 ∷ x .clock .0
+    ∷ x .asked .operation .code ∷ x .asked .operation .r ∷ x .asked .operation .q ∷ x .asked .operation .amount
+    ∷ one (x .asked .strong) ∷ x .context .words
+
+-- refusal, number, response, mark, and the request to be spread
+unfoldable pub answerFields : Answer → List ℕ
+answerFields v =
+    v .refusal ∷ v .number .panel .0 ∷ v .number .event .0 ∷ v .response ∷ v .mark ∷ requestFields (v .request)
+
+-- the same, given refusal, number, response and mark, where nothing is to be spread
+abbrev pub spreadsNothing : (refusal panel event response mark : ℕ) → List ℕ
+spreadsNothing refusal panel event response mark = refusal ∷ panel ∷ event ∷ response ∷ mark ∷ replicate 8 0 ++ replicate mostPanels 0
+
+-- a refusal's number, and zeros elsewhere
+abbrev pub refusalAlone : ℕ → List ℕ
+refusalAlone refusal = spreadsNothing refusal 0 0 0 0
+
+-- ---- the replicas
+
+-- panel 0 of 2 after those calls
+abbrev pub after : List Call → Replica
+after calls = run (fresh 2 0) calls
+
+-- what that call answers then, in every field
+unfoldable pub told : List Call → Call → List ℕ
+told calls c = answerFields (answer (after calls) c)
+
+-- a weak request of panel 1 is heard, one that sets register 63 to 8
+abbrev pub hear : Call
+hear = deliver (weak 1 1 10 (setTo 63 8))
+
+-- an own strong request claims register 0
+abbrev pub claiming : Call
+claiming = makeStrong 20 (claim 0 5)
+
+-- a strong request of panel 1 is heard whose context names 1/2, 0/9 and 0/8, none of which is known
+abbrev pub waiting : Call
+waiting = deliver (strong 1 4 30 (read 0) (join (join (join emptySet (numbered 1 2)) (numbered 0 9)) (numbered 0 8)))
+
+-- a request that comes before both that are carried out is heard, so that both are to be undone
+abbrev pub overtaken : List Call
+overtaken = hear ∷ claiming ∷ execute ∷ execute ∷ deliver (weak 1 2 1 (add 3 0)) ∷ []
+
+-- ---- the answers
+
+unfoldable pub answerCases : List Case
+answerCases =
+    -- make: the request to be spread, and zeros elsewhere
+    case (told [] (make 7 (add 3 4)))
+    (refused.accepted ∷ 0 ∷ 0 ∷ 0 ∷ noMark ∷ 0 ∷ 1 ∷ 7 ∷ codeAdd ∷ 4 ∷ 0 ∷ 3 ∷ 0 ∷ replicate mostPanels 0)
+    -- a strong one with its context, here {1/1}
+    ∷ case (told (hear ∷ []) claiming)
+    (refused.accepted ∷ 0 ∷ 0 ∷ 0 ∷ noMark ∷ 0 ∷ 1 ∷ 20 ∷ codeClaim ∷ 0 ∷ 0 ∷ 5 ∷ 1 ∷ 0 ∷ 1 ∷ replicate 6 0)
+    -- refused
+    ∷ case (told [] (make 7 (claim 0 0))) (refusalAlone refused.badOperation)
+    -- hear: zeros; refused
+    ∷ case (told [] hear) (refusalAlone refused.accepted)
+    ∷ case (told (hear ∷ []) hear) (refusalAlone refused.heldAlready)
+    -- settle: zeros where no reply is due; response and mark 3, and no number, where one is
+    ∷ case (told (deliver (strong 1 1 5 (read 0) emptySet) ∷ []) (commit (numbered 1 1))) (refusalAlone refused.accepted)
+    ∷ case (told (claiming ∷ execute ∷ []) (commit (numbered 0 1))) (spreadsNothing refused.accepted 0 0 5 stableMark)
+    -- refused; 12 names the missing number, lowest panel and then lowest event
+    ∷ case (told [] (commit (numbered 1 1))) (refusalAlone refused.notHere)
+    ∷ case (told (waiting ∷ []) (commit (numbered 1 4))) (spreadsNothing refused.waits 0 8 0 noMark)
+    -- undo: the number, last first; refused
+    ∷ case (told overtaken undo) (spreadsNothing refused.accepted 0 1 0 noMark)
+    ∷ case (told (overtaken ++ undo ∷ []) undo) (spreadsNothing refused.accepted 1 1 0 noMark)
+    ∷ case (told (overtaken ++ undo ∷ undo ∷ []) undo) (refusalAlone refused.nothingToUndo)
+    -- carry out: number, response and mark: nobody waits, weak, tentative, stable
+    ∷ case (told (hear ∷ []) execute) (spreadsNothing refused.accepted 1 1 0 noMark)
+    ∷ case (told (make 7 (add 3 4) ∷ []) execute) (spreadsNothing refused.accepted 0 1 3 weakMark)
+    ∷ case (told (claiming ∷ []) execute) (spreadsNothing refused.accepted 0 1 5 tentativeMark)
+    ∷ case (told (claiming ∷ commit (numbered 0 1) ∷ []) execute) (spreadsNothing refused.accepted 0 1 5 stableMark)
+    -- a move of 0 responds 0, as document 02's request (i) has it
+    ∷ case (told (make 7 (move 0 1 2) ∷ []) execute) (spreadsNothing refused.accepted 0 1 0 weakMark)
+    -- refused while an undo is due
+    ∷ case (told overtaken execute) (refusalAlone refused.undoFirst)
+    -- on an idle panel, one that has stepped too
+    ∷ case (told [] execute) (refusalAlone refused.nothingToDo)
+    ∷ case (told [] undo) (refusalAlone refused.nothingToUndo)
+    ∷ case (told (make 7 (read 0) ∷ execute ∷ []) execute) (refusalAlone refused.nothingToDo)
+    ∷ case (told (make 7 (read 0) ∷ execute ∷ []) undo) (refusalAlone refused.nothingToUndo)
+    -- a refused fresh returns a one-panel shop, panel 0, which is used like any other: there is no panel 1 in it
+    ∷ case (freshRefusal 9 0 ∷ answers (fresh 9 0) (make 7 (read 0) ∷ execute ∷ hear ∷ commit (numbered 0 1) ∷ []))
+    (refused.badShop ∷ refused.accepted ∷ refused.accepted ∷ refused.badNumber ∷ refused.weak ∷ [])
+    ∷ []
+
+-- ---- the showing calls
+
+-- refusal and value of a register
+unfoldable pub registerAt : Replica → ℕ → List ℕ
+registerAt r k = registerRefusal k ∷ registerShown r k ∷ []
+
+-- refusal and request of a place
+unfoldable pub placeAt : Replica → ℕ → List ℕ
+placeAt r place = placeRefusal r place ∷ requestFields (placeShown r place)
+
+-- requests, settlements, undos, carry-outs, owed
+unfoldable pub counts : Replica → List ℕ
+counts r = requestsShown r ∷ commitsShown r ∷ undosShown r ∷ executionsShown r ∷ owedShown r ∷ []
+
+-- registers 0 and 63 are held: a weak request of panel 1 and an own strong one, carried out, and the second settled
+unfoldable pub bothHeld : Replica
+bothHeld = run (driven (fresh 2 0) (hear ∷ claiming ∷ [])) (commit (numbered 0 1) ∷ [])
+
+unfoldable pub shownCases : List Case
+shownCases =
+    -- the first register, the last, and one past it
+    case (registerAt bothHeld 0) (refused.accepted ∷ 5 ∷ [])
+    ∷ case (registerAt bothHeld 63) (refused.accepted ∷ 8 ∷ [])
+    ∷ case (registerAt bothHeld 64) (refused.badOperation ∷ 0 ∷ [])
+    -- places are counted from 1: the first, the last, one before and one behind
+    ∷ case (placeAt bothHeld 1) (refused.accepted ∷ 1 ∷ 1 ∷ 10 ∷ codeSet ∷ 63 ∷ 0 ∷ 8 ∷ 0 ∷ replicate mostPanels 0)
+    ∷ case (placeAt bothHeld 2) (refused.accepted ∷ 0 ∷ 1 ∷ 20 ∷ codeClaim ∷ 0 ∷ 0 ∷ 5 ∷ 1 ∷ 0 ∷ 1 ∷ replicate 6 0)
+    ∷ case (placeAt bothHeld 0) (refused.notHere ∷ replicate 8 0 ++ replicate mostPanels 0)
+    ∷ case (placeAt bothHeld 3) (refused.notHere ∷ replicate 8 0 ++ replicate mostPanels 0)
+    ∷ case (placeAt (fresh 2 0) 1) (refused.notHere ∷ replicate 8 0 ++ replicate mostPanels 0)
+    -- the counts of a fresh panel, and of one on which all five kinds of calls were accepted
+    ∷ case (counts (fresh 2 0)) (0 ∷ 0 ∷ 0 ∷ 0 ∷ 0 ∷ [])
+    ∷ case (counts (run (fresh 2 0) (overtaken ++ commit (numbered 0 1) ∷ undo ∷ []))) (3 ∷ 1 ∷ 1 ∷ 2 ∷ 4 ∷ [])
+    ∷ []
