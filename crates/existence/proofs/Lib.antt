@@ -8,3 +8,4 @@ pub mod StorableLaws
 pub mod RightPanelKeeps
 pub mod RightHistory
 pub mod NeverWorthless
+pub mod WidthNeeded

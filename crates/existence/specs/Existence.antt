@@ -1,18 +1,20 @@
 -- What is claimed: the right panel keeps every contract on every list of calls that fit the code's types, each such list has a history,
--- and the right panel is never worthless.
+-- and the right panel is never worthless; and on two lists with a call that does not fit no panel keeps its contracts.
 use Prim.{Unit}
 use Prim.Native.Nat.{ℕ, _<_}
 use mathlib.Core.Path.{_≡_}
-use mathlib.Core.List.{List}
+use mathlib.Core.List.{List, [], _∷_}
 use lib.ListN.{length}
 use Rattle.lists.specs.Places.{All}
 use Rattle.request.specs.declared.Request.{Request}
 use Rattle.numbers.specs.Numbers.{mostPanels}
+use Rattle.sets.specs.Sets.{setOf}
 use Rattle.registers.specs.Effect.{range}
 use Rattle.creek.specs.Book.{Call, invoke, deliver, commit, undo, execute}
+use Rattle.creek.specs.Examples.{read, strong}
 use Rattle.history.specs.PanelHistory.{PanelHistory}
-use Rattle.history.specs.Worthless.{PanelCall, single, runDue, Panel, Keeps, RefusesEach, RepliesAlways, LeavesAlone, ExecutesAll}
-use Rattle.history.specs.Worthless.{InventsCounters, LeavesDue, RepliesDueAlways, InventsDueCounts}
+use Rattle.history.specs.Worthless.{PanelCall, single, runDue, singly, Panel, Keeps, RefusesEach, RepliesAlways, LeavesAlone, ExecutesAll}
+use Rattle.history.specs.Worthless.{InventsCounters, LeavesDue, RepliesDueAlways, InventsDueCounts, firstValue, setting}
 
 -- ---- calls that fit the code's types
 
@@ -54,3 +56,23 @@ pub record NeverWorthless (panel : Panel) : Type 0 where
   pub leaves-due : LeavesDue panel → ⊥
   pub replies-due-always : (response : ℕ) → RepliesDueAlways panel response → ⊥
   pub invents-due-counts : (panels own : ℕ) (calls : List PanelCall) → All Fits calls → InventsDueCounts panel panels own calls → ⊥
+
+-- ---- that the calls fit is needed
+
+-- no panel of that shop keeps its contracts on those calls
+abbrev pub NobodyKeeps : ℕ → ℕ → List PanelCall → Type 0
+NobodyKeeps panels own calls = (panel : Panel) → Keeps panel panels own calls → ⊥
+
+-- a request with no word in its context is heard, and a memory has eight words for each context
+abbrev pub wordless : Request
+wordless = strong 1 1 5 (read 0) (setOf [])
+
+abbrev pub shortContext : List PanelCall
+shortContext = single (deliver wordless) ∷ []
+
+-- register 0 is set to more than it holds and then set again, and what is saved before that does not fit its word
+abbrev pub wideCalls : List Call
+wideCalls = setting range ∷ setting firstValue ∷ execute ∷ execute ∷ []
+
+abbrev pub wideAmount : List PanelCall
+wideAmount = singly wideCalls
