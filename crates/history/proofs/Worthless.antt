@@ -96,7 +96,7 @@ last-two e = (cc e, cc e)
 -- ---- a panel that keeps its contracts
 
 module _ (panel : Panel) where
-  kept-leads : (p : State) (cs : List PanelCall) → KeepsCalls panel p cs
+  pub kept-leads : (p : State) (cs : List PanelCall) → KeepsCalls panel p cs
       → Leads p (standFor panel p cs) (answersFrom panel p cs) (after panel p cs)
   kept-leads p [] kept = stay
   kept-leads p (single c ∷ cs) kept = call (panel .call p c) (kept .0) (kept-leads (panel .call p c .state) cs (kept .1))

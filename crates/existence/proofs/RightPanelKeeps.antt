@@ -1,0 +1,107 @@
+-- The right panel keeps every contract: that of fresh, of each call that fits, of all due steps at once and of the showing calls.
+use Prim.Native.Nat.{ℕ}
+use native.Mathlib.Omega.{arith}
+use mathlib.Core.Path.{_≡_, refl, ap, _∙_}
+use mathlib.Core.Bool.{Bool, false, cond}
+use mathlib.Core.List.{List, [], _∷_}
+use borrow.Author.Tests.{eq-eqb}
+use Rattle.lists.specs.Places.{All}
+use Rattle.lists.proofs.BoolLaws.{either}
+use Rattle.creek.specs.Execution.{isIdle}
+use Rattle.creek.specs.Book.{Call, isAccepted}
+use Rattle.creek.specs.Calls.{Replica, fresh, step}
+use Rattle.creek.specs.History.{idled}
+use Rattle.creek.specs.Showing.{owedShown}
+use Rattle.creek.proofs.DueLaws.{idle-exactly}
+use Rattle.replica.specs.State.{State}
+use Rattle.replica.specs.Model.{bookOf, model, Inv, Fresh, Kept}
+use Rattle.due.specs.Due.{RunDue}
+use Rattle.history.specs.Worthless.{PanelCall, single, runDue, next, KeepsCalls, Keeps}
+use Rattle.existence.specs.Memory.{memoryOf}
+use Rattle.existence.specs.RightPanel.{rightFresh, rightCall, rightRunDue, rightRegister, rightPanel}
+use Rattle.existence.specs.Existence.{CallFits, Fits}
+use Rattle.existence.proofs.MemoryLaws.{Storable, memory-model, memory-inv}
+use Rattle.existence.proofs.StorableLaws.{step-storable, due-storable, fresh-storable}
+
+-- ---- each contract
+
+pub right-fresh : (panels own : ℕ) → Fresh panels own (rightFresh panels own)
+unfolding rightFresh
+right-fresh panels own = record {
+  refusal = refl;
+  state = memory-model (fresh panels own) (fresh-storable panels own);
+  invariant = memory-inv (fresh panels own) (fresh-storable panels own);
+}
+
+-- a refused call leaves the replica as it was
+refused-model : (p : State) (c : Call) → isAccepted (bookOf p) c ≡ false → model p ≡ step (model p) c
+unfolding model step
+refused-model p c refused = rw refused
+
+module _ (p : State) (s : Storable (model p)) where
+  module _ (c : Call) (fit : CallFits c) where
+    after-call : Storable (step (model p) c)
+    after-call = step-storable (model p) c fit s
+
+    pub right-call-model : model (rightCall p c .state) ≡ step (model p) c
+    unfolding rightCall
+    right-call-model =
+        either (λ (q : State). model q ≡ step (model p) c) (isAccepted (bookOf p) c)
+        (λ taken. memory-model (step (model p) c) after-call) (refused-model p c)
+
+    pub right-call : Inv p → Kept p c (rightCall p c)
+    unfolding rightCall
+    right-call inv = record {
+      answer = refl;
+      state = right-call-model;
+      unchanged = λ refused. ap (λ (b : Bool). cond b (memoryOf (step (model p) c)) p) refused;
+      invariant = either Inv (isAccepted (bookOf p) c) (λ taken. memory-inv (step (model p) c) after-call) (λ refused. inv);
+    }
+
+  after-due : Storable (idled (model p))
+  after-due = due-storable (owedShown (model p)) (model p) s
+
+  pub right-due-model : model (rightRunDue p .state) ≡ idled (model p)
+  unfolding rightRunDue
+  right-due-model = memory-model (idled (model p)) after-due
+
+  pub right-run-due : RunDue p (rightRunDue p)
+  unfolding rightRunDue
+  right-run-due = record {
+    state = right-due-model;
+    undos = refl;
+    executions = refl;
+    count = refl;
+    replies = refl;
+    idle =
+        ap (λ (r : Replica). isIdle (r .book .execution)) right-due-model
+        ∙ idle-exactly (model p) (s .sound) (owedShown (model p)) (omega arith)
+        ∙ eq-eqb (owedShown (model p)) (owedShown (model p)) refl;
+    invariant = memory-inv (idled (model p)) after-due;
+  }
+
+-- ---- each list of calls
+
+right-fresh-storable : (panels own : ℕ) → Storable (model (rightFresh panels own .state))
+right-fresh-storable panels own = rw (right-fresh panels own .state) (fresh-storable panels own)
+
+right-next-storable : (p : State) (c : PanelCall) → Fits c → Storable (model p) → Storable (model (next rightPanel p c))
+right-next-storable p (single c) fit s = rw (right-call-model p s c fit) (step-storable (model p) c fit s)
+right-next-storable p runDue fit s = rw (right-due-model p s) (due-storable (owedShown (model p)) (model p) s)
+
+right-keeps-calls : (p : State) (calls : List PanelCall) → All Fits calls → Storable (model p) → KeepsCalls rightPanel p calls
+right-keeps-calls p [] fit s = tt
+right-keeps-calls p (single c ∷ cs) fit s =
+    (right-call p s c (fit .0), right-keeps-calls (rightCall p c .state) cs (fit .1) (right-next-storable p (single c) (fit .0) s))
+right-keeps-calls p (runDue ∷ cs) fit s =
+    ((λ inv. right-run-due p s), right-keeps-calls (rightRunDue p .state) cs (fit .1) (right-next-storable p runDue (fit .0) s))
+
+pub right-panel-keeps : (panels own : ℕ) (calls : List PanelCall) → All Fits calls → Keeps rightPanel panels own calls
+unfolding rightRegister
+right-panel-keeps panels own calls fit = record {
+  fresh = right-fresh panels own;
+  kept = right-keeps-calls (rightFresh panels own .state) calls fit (right-fresh-storable panels own);
+  register = λ k low inv. record { refusal = refl; value = refl };
+  undos = λ inv. refl;
+  executions = λ inv. refl;
+}

@@ -1,0 +1,48 @@
+-- The right panel, made of `creek`'s own definitions: it answers and shows as `creek` does, and its memory after an accepted call is the
+-- one that holds the replica after `creek`'s step.
+use Prim.Native.Nat.{ℕ}
+use mathlib.Core.Bool.{cond}
+use lib.ListN.{length}
+use Rattle.creek.specs.Book.{Call, isAccepted}
+use Rattle.creek.specs.Calls.{freshRefusal, fresh, step, answer}
+use Rattle.creek.specs.History.{idled}
+use Rattle.creek.specs.Showing.{registerRefusal, registerShown, undosShown, executionsShown}
+use Rattle.replica.specs.State.{State, Opened, Called}
+use Rattle.replica.specs.Model.{bookOf, model}
+use Rattle.replica.specs.declared.RegisterValue.{RegisterValue}
+use Rattle.due.specs.Due.{DueOutcome, padded, repliesOwed}
+use Rattle.history.specs.Worthless.{Panel}
+use Rattle.existence.specs.Memory.{memoryOf}
+
+-- fresh: its refusal, and the memory that holds the replica that `creek` begins with
+unfoldable pub rightFresh : ℕ → ℕ → Opened
+rightFresh panels own = record { refusal = freshRefusal panels own; state = memoryOf (fresh panels own) }
+
+-- a call: its answer, and the memory that holds the replica after it; a refused one leaves the memory as it was
+unfoldable pub rightCall : State → Call → Called
+rightCall p c = record { answer = answer (model p) c; state = cond (isAccepted (bookOf p) c) (memoryOf (step (model p) c)) p }
+
+-- all due steps at once: how many they are, the replies that fall due, and the memory that holds the idle replica
+unfoldable pub rightRunDue : State → DueOutcome
+rightRunDue p = record {
+  undos = length (model p .book .execution .rollback);
+  executions = length (model p .book .execution .todo);
+  count = length (repliesOwed p);
+  replies = padded (repliesOwed p);
+  state = memoryOf (idled (model p));
+}
+
+-- a register, shown
+unfoldable pub rightRegister : State → ℕ → RegisterValue
+rightRegister p k = record { refusal = registerRefusal k; value = registerShown (model p) k }
+
+-- these and the step counters, shown
+abbrev pub rightPanel : Panel
+rightPanel = record {
+  fresh = rightFresh;
+  call = rightCall;
+  run-due = rightRunDue;
+  register = rightRegister;
+  undos = λ p. undosShown (model p);
+  executions = λ p. executionsShown (model p);
+}
