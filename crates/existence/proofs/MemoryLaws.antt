@@ -17,11 +17,11 @@ use Rattle.slots.specs.Slots.{mostSlots}
 use Rattle.store.specs.Requests.{mostWords}
 use Rattle.creek.specs.Plan.{order, lastEvent, lastClock}
 use Rattle.creek.specs.Execution.{Execution, operations}
-use Rattle.creek.specs.Stack.{stacked}
+use Rattle.creek.specs.internal.Stack.{stacked}
 use Rattle.creek.specs.Calls.{Replica}
-use Rattle.creek.specs.Sound.{Sound}
-use Rattle.creek.specs.Waiting.{SoundAwaiting}
-use Rattle.replica.specs.Model.{orderSlots, boardSlots, orderOf, boardOf, planOf, bookOf, model, Inv}
+use Rattle.creek.specs.internal.Sound.{Sound}
+use Rattle.creek.specs.internal.SoundAwaiting.{SoundAwaiting}
+use Rattle.replica.specs.internal.Model.{orderSlots, boardSlots, orderOf, boardOf, planOf, bookOf, model, Inv}
 use Rattle.existence.specs.Memory.{slotIn, slotsOf, heldBy, onBoard, memoryOf}
 use Rattle.existence.specs.Existence.{RequestFits}
 use Rattle.existence.proofs.SavedLaws.{board-log}

@@ -14,7 +14,8 @@ use Rattle.lists.proofs.ListLaws.{one-zero, one-true, find-one}
 use Rattle.sets.specs.declared.Context.{Context}
 use Rattle.numbers.specs.declared.Number.{Number}
 use Rattle.request.specs.declared.Request.{Request}
-use Rattle.numbers.specs.Numbers.{mostPanels, GoodNumber, sameNumber, numberOf, clockReading}
+use Rattle.numbers.specs.Numbers.{mostPanels, sameNumber, clockReading}
+use Rattle.numbers.specs.internal.Slots.{GoodNumber, numberOf}
 use Rattle.numbers.proofs.NumberLaws.{good-number, sameNumber-self, sameNumber-sym, slot-fits, number-of-slot}
 use Rattle.sets.specs.Sets.{setOf, member}
 use Rattle.sets.proofs.SetLaws.{member-empty, member-join, join-length}
@@ -25,7 +26,7 @@ use Rattle.slots.proofs.SlotLaws.{same-slot}
 use Rattle.store.specs.Requests.{wordOf, askedIn, contextAt, requestAt}
 use Rattle.store.proofs.WordLaws.{asked-read}
 use Rattle.creek.specs.Plan.{hasNumber}
-use Rattle.creek.specs.Sound.{isBad, Held}
+use Rattle.creek.specs.internal.Sound.{isBad, Held}
 use Rattle.creek.proofs.HeldLaws.{Good, good-request, widened}
 use Rattle.existence.specs.Memory.{orNone, atSlot, slotIn, numbersOf, clocksOf, askedOf, contextsOf}
 use Rattle.existence.specs.Existence.{RequestFits}

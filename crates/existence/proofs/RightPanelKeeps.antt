@@ -14,7 +14,8 @@ use Rattle.creek.specs.History.{idled}
 use Rattle.creek.specs.Showing.{owedShown}
 use Rattle.creek.proofs.DueLaws.{idle-exactly}
 use Rattle.replica.specs.State.{State}
-use Rattle.replica.specs.Model.{bookOf, model, Inv, Fresh, Kept}
+use Rattle.replica.specs.Promises.{Fresh, Kept}
+use Rattle.replica.specs.internal.Model.{bookOf, model, Inv}
 use Rattle.due.specs.Due.{RunDue}
 use Rattle.history.specs.Worthless.{PanelCall, single, runDue, next, KeepsCalls, Keeps}
 use Rattle.existence.specs.Memory.{memoryOf}

@@ -18,7 +18,7 @@ use Rattle.registers.specs.Replay.{zeroBoard, replayOn, replay}
 use Rattle.registers.proofs.FrameLaws.{InRange}
 use Rattle.slots.specs.Slots.{mostSlots}
 use Rattle.creek.specs.Execution.{operations}
-use Rattle.replica.specs.Model.{operationAt, registersBefore, Log}
+use Rattle.replica.specs.internal.Model.{operationAt, registersBefore, Log}
 use Rattle.existence.specs.Memory.{savedOn, responsesOn}
 use Rattle.existence.specs.Existence.{RequestFits}
 use Rattle.existence.proofs.TableLaws.{table-at}

@@ -10,7 +10,8 @@ use Rattle.lists.proofs.ListLaws.{one-false}
 use Rattle.sets.specs.declared.Context.{Context}
 use Rattle.numbers.specs.declared.Number.{Number}
 use Rattle.request.specs.declared.Request.{Request}
-use Rattle.numbers.specs.Numbers.{mostPanels, GoodNumber, sameNumber}
+use Rattle.numbers.specs.Numbers.{mostPanels, sameNumber}
+use Rattle.numbers.specs.internal.Slots.{GoodNumber}
 use Rattle.numbers.proofs.NumberLaws.{sameNumber-sound}
 use Rattle.sets.specs.Sets.{member, join}
 use Rattle.sets.proofs.SetLaws.{member-empty, member-join}
@@ -22,7 +23,7 @@ use Rattle.creek.specs.Book.{Call, invoke, deliver, commit, undo, execute, empt
 use Rattle.creek.specs.Replies.{acceptedAnswer, acceptedAwaiting}
 use Rattle.creek.specs.Calls.{Replica, badShop, replicaOf, fresh, accept, step}
 use Rattle.creek.specs.History.{dueCall, afterDueSteps}
-use Rattle.creek.specs.Sound.{Sound, SoundPlan}
+use Rattle.creek.specs.internal.Sound.{Sound, SoundPlan}
 use Rattle.creek.proofs.CallLaws.{by-outcome}
 use Rattle.creek.proofs.ContextLaws.{without-length}
 use Rattle.creek.proofs.AcceptanceLaws.{commits}

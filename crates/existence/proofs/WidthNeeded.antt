@@ -27,7 +27,7 @@ use Rattle.creek.specs.Calls.{badShop, fresh, accept, step}
 use Rattle.creek.specs.History.{run}
 use Rattle.creek.proofs.StackLaws.{stacked-board}
 use Rattle.replica.specs.State.{State}
-use Rattle.replica.specs.Model.{requestsAt, orderOf, boardOf, orderSlots, bookOf, model, operationAt, registersBefore, Inv}
+use Rattle.replica.specs.internal.Model.{requestsAt, orderOf, boardOf, orderSlots, bookOf, model, operationAt, registersBefore, Inv}
 use Rattle.replica.proofs.ModelLaws.{order-is}
 use Rattle.history.specs.Worthless.{PanelCall, Panel, standFor, reached, Keeps}
 use Rattle.history.proofs.History.{panel-inv, panel-replica}

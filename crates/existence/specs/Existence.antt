@@ -11,7 +11,7 @@ use Rattle.numbers.specs.Numbers.{mostPanels}
 use Rattle.sets.specs.Sets.{setOf}
 use Rattle.registers.specs.Effect.{range}
 use Rattle.creek.specs.Book.{Call, invoke, deliver, commit, undo, execute}
-use Rattle.creek.specs.Examples.{read, strong}
+use Rattle.creek.specs.examples.Notation.{read, strong}
 use Rattle.history.specs.PanelHistory.{PanelHistory}
 use Rattle.history.specs.Worthless.{PanelCall, single, runDue, singly, Panel, Keeps, RefusesEach, RepliesAlways, LeavesAlone, ExecutesAll}
 use Rattle.history.specs.Worthless.{InventsCounters, LeavesDue, RepliesDueAlways, InventsDueCounts, firstValue, setting}

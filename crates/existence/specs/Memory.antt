@@ -6,7 +6,8 @@ use lib.ListN.{length, getD, replicate}
 use Rattle.lists.specs.Lists.{find}
 use Rattle.sets.specs.declared.Context.{Context}
 use Rattle.request.specs.declared.Request.{Request}
-use Rattle.numbers.specs.Numbers.{panelNo, clockReading, mostPanels, slotOf, numberOf}
+use Rattle.numbers.specs.Numbers.{panelNo, clockReading, mostPanels}
+use Rattle.numbers.specs.internal.Slots.{slotOf, numberOf}
 use Rattle.sets.specs.Sets.{emptySet, join}
 use Rattle.request.specs.Request.{noRequest}
 use Rattle.registers.specs.Effect.{response}
@@ -18,7 +19,7 @@ use Rattle.creek.specs.Plan.{order, hasNumber, lastEvent, lastClock}
 use Rattle.creek.specs.Execution.{board, operations}
 use Rattle.creek.specs.Calls.{Replica}
 use Rattle.replica.specs.State.{State}
-use Rattle.replica.specs.Model.{operationAt, registersBefore}
+use Rattle.replica.specs.internal.Model.{operationAt, registersBefore}
 
 -- ---- requests as arrays
 

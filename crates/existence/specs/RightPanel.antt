@@ -8,7 +8,7 @@ use Rattle.creek.specs.Calls.{freshRefusal, fresh, step, answer}
 use Rattle.creek.specs.History.{idled}
 use Rattle.creek.specs.Showing.{registerRefusal, registerShown, undosShown, executionsShown}
 use Rattle.replica.specs.State.{State, Opened, Called}
-use Rattle.replica.specs.Model.{bookOf, model}
+use Rattle.replica.specs.internal.Model.{bookOf, model}
 use Rattle.replica.specs.declared.RegisterValue.{RegisterValue}
 use Rattle.due.specs.Due.{DueOutcome, padded, repliesOwed}
 use Rattle.history.specs.Worthless.{Panel}
