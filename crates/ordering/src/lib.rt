@@ -15,4 +15,3 @@ pub use common::common_start;
 pub use insertion::insert_at;
 pub use insertion::place;
 pub use later::without_later;
-pub use order::comes_before;

@@ -39,7 +39,7 @@ pub fn put_integer(out: &mut [u8], at: usize, width: usize, v: u64)
 }
 
 // The integer in the eight bytes of s from `at` on, read as two halves, each of which compiles to one load.
-pub fn word_at(s: &[u8], at: usize) -> u64
+pub(crate) fn word_at(s: &[u8], at: usize) -> u64
     requires { ⌜ at + widest ≤ length (now s) ⌝ }
     ensures { λ r. ⌜ r ≡ integerAt (now (s .entry)) at widest ⌝ }
 {
@@ -49,7 +49,7 @@ pub fn word_at(s: &[u8], at: usize) -> u64
 }
 
 // Writes v into the eight bytes of out from `at` on as two halves, each of which compiles to one store.
-pub fn put_word(out: &mut [u8], at: usize, v: u64)
+pub(crate) fn put_word(out: &mut [u8], at: usize, v: u64)
     requires { ⌜ at + widest ≤ length (now out) ⌝ }
     ensures { λ _. ⌜ now (out .exit) ≡ sets (now (out .entry)) at (integerBytes widest v) ⌝ }
 {

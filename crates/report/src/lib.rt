@@ -70,7 +70,7 @@ pub fn put_totals(
 }
 
 // Puts a register's line, or nothing if it is 0.
-pub fn put_register(out: &mut [u8], at: usize, register: u64, value: u64) -> usize
+fn put_register(out: &mut [u8], at: usize, register: u64, value: u64) -> usize
     requires { ⌜ Room (now out) at (lineUnlessZero register value) ⌝ }
     ensures { λ behind. ⌜ Placed (now (out .entry)) at (lineUnlessZero register value) (now (out .exit)) behind ⌝ }
 {

@@ -15,7 +15,7 @@ pub struct SettledOrder {
 const EVENTS: u16 = numbers::MOST_EVENTS as u16;
 
 // Whether the number of slot t is in the set of these words.
-pub fn in_words(words: &[u64; 8], t: u16) -> bool
+fn in_words(words: &[u64; 8], t: u16) -> bool
     requires { ⌜ t < mostSlots ⌝ }
     ensures { λ r. ⌜ r ≡ inWords (now (words .entry)) t ⌝ }
 {

@@ -8,7 +8,7 @@ ghost use Rattle.text.specs.Text.{decimal, numbers, restOfLine, line};
 ghost use Rattle.text.specs.Placed.{Room, Placed};
 
 // Puts one byte.
-pub fn put_byte(out: &mut [u8], at: usize, byte: u8) -> usize
+fn put_byte(out: &mut [u8], at: usize, byte: u8) -> usize
     requires { ⌜ Room (now out) at (byte ∷ []) ⌝ }
     ensures { λ behind. ⌜ Placed (now (out .entry)) at (byte ∷ []) (now (out .exit)) behind ⌝ }
 {
