@@ -1,57 +1,30 @@
 // Runs the cases at the edges of document 01 that are not proved, and prints a line for each: the refusal number.
-use numbers::PanelNo;
+use encoding::answers::ANSWER_SIZE;
+use libc::STDIN_FILENO;
+use libc::STDOUT_FILENO;
+
+// How many calls the list on standard input has.
+const CALLS: usize = 6;
 
 fn main() {
-    print(idle_execute());
-    print(idle_undo());
+    let mut list = io::buffer();
+    let n = io::read_full(STDIN_FILENO, &mut list);
+    print_idle(answers_to(&list[..n]));
     print(cut_short());
     print(bad_length());
 }
 
-// Carry-out on an idle panel.
-fn idle_execute() -> u8 {
-    let mut held = [0u64; 8];
-    let mut known = [0u64; 8];
-    let mut awaiting = [0u64; 8];
-    let mut clocks = [0u32; 512];
-    let mut operations = [0u64; 512];
-    let mut contexts = [0u64; 4096];
-    let mut order = [0u16; 512];
-    let mut stack = [0u16; 512];
-    let mut registers = [0u32; 64];
-    let mut saved = [0u64; 512];
-    let mut responses = [0u32; 512];
-    let opened = replica::fresh(
-        &mut held,
-        &mut known,
-        &mut awaiting,
-        &mut clocks,
-        &mut operations,
-        &mut contexts,
-        &mut order,
-        &mut stack,
-        &mut registers,
-        &mut saved,
-        &mut responses,
-        1,
-        PanelNo(0),
-    );
-    let called = steps::execute(
-        opened.core,
-        &mut awaiting,
-        &operations,
-        &order,
-        &mut stack,
-        &mut registers,
-        &mut saved,
-        &mut responses,
-    );
-    let answer = called.answer;
-    answer.refusal
+// Carry-out and undo on an idle panel: on a fresh one, and on one that has made a request and carried it out.
+fn print_idle(answers: [u8; CALLS * ANSWER_SIZE]) {
+    print(answers[0]);
+    print(answers[ANSWER_SIZE]);
+    print(answers[4 * ANSWER_SIZE]);
+    print(answers[5 * ANSWER_SIZE]);
 }
 
-// Undo on an idle panel.
-fn idle_undo() -> u8 {
+// The answers to a list of calls, encoded as `docs/CALLS.md` says: on panel 0 of a one-panel shop carry out, undo, make, carry out, carry out, undo.
+fn answers_to(list: &[u8]) -> [u8; CALLS * ANSWER_SIZE] {
+    let mut answers = [0u8; CALLS * ANSWER_SIZE];
     let mut held = [0u64; 8];
     let mut known = [0u64; 8];
     let mut awaiting = [0u64; 8];
@@ -63,7 +36,9 @@ fn idle_undo() -> u8 {
     let mut registers = [0u32; 64];
     let mut saved = [0u64; 512];
     let mut responses = [0u32; 512];
-    let opened = replica::fresh(
+    driver::run(
+        list,
+        &mut answers,
         &mut held,
         &mut known,
         &mut awaiting,
@@ -75,12 +50,8 @@ fn idle_undo() -> u8 {
         &mut registers,
         &mut saved,
         &mut responses,
-        1,
-        PanelNo(0),
     );
-    let called = steps::undo(opened.core, &operations, &stack, &mut registers, &saved);
-    let answer = called.answer;
-    answer.refusal
+    answers
 }
 
 // A kind 1 message of 17 bytes present.
@@ -101,7 +72,7 @@ fn bad_length() -> u8 {
 
 // Prints a number on a line of its own.
 fn print(n: u8) {
-    io::print_decimal(1, n as u64);
+    io::print_decimal(STDOUT_FILENO, n as u64);
     let end = [b'\n'];
-    io::write_all(1, &end);
+    io::write_all(STDOUT_FILENO, &end);
 }
