@@ -1,2 +1,3 @@
--- The worked example.
+-- The worked example, and laws of printing into lent bytes.
 pub mod Worked
+pub mod PrintedLaws
