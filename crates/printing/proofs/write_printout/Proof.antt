@@ -21,13 +21,13 @@ array-share-prefix-out c =
     let p = c .before .print in
     omega (arith, c .before .before .before .page .ensures, returned-within (p .ensures) (p .kept .0), p .kept .0)
 
-slice-aggregate-write-all : tie.Need-slice-aggregate-write-all
-slice-aggregate-write-all c =
+slice-aggregate-write-text : tie.Need-slice-aggregate-write-text
+slice-aggregate-write-text c =
     let p = c .before .before .print in
     sym (length-take-le (p .result) (p .last .0) (array-share-prefix-out (c .before)))
 
-write-all-requires : tie.Need-write-all-requires
-write-all-requires c κs = search needs
+write-text-requires : tie.Need-write-text-requires
+write-text-requires c κs = search needs
 
 returns : tie.Need-returns
 returns c =
@@ -42,6 +42,6 @@ write-printout-spec =
     slice-aggregate-print
     print-requires
     array-share-prefix-out
-    slice-aggregate-write-all
-    write-all-requires
+    slice-aggregate-write-text
+    write-text-requires
     returns)
