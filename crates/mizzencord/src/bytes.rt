@@ -6,7 +6,7 @@ use request::refusal;
 use wire::Subject;
 use wire::Written;
 ghost use mathlib.Core.Path.{_≡_};
-ghost use Rattle.sheet.specs.Putting.{Printed};
+ghost use Rattle.printed.specs.Printout.{Printed};
 ghost use Rattle.mizzencord.specs.Lists.{Answered};
 ghost use Rattle.wire.specs.Reader.{answered, readAt};
 ghost use Rattle.wire.specs.Writer.{Wrote};

@@ -1,8 +1,10 @@
--- The whole printout as a function of the input's bytes: what is found in them makes of `creek`'s replica, and the lines of both.
+-- The whole printout as a function of the input's bytes: what is found in them makes of `creek`'s replica, and the lines of both; and what
+-- printing it into lent bytes returns and leaves of them.
 use Prim.Native.Nat.{ℕ, suc, _+_, _*_, _/_, _-_}
+use mathlib.Core.Path.{_≡_}
 use mathlib.Core.Bool.{cond}
 use mathlib.Core.List.{List, [], _∷_, _++_}
-use lib.ListN.{length, getD}
+use lib.ListN.{length, getD, take, drop}
 use lib.Dec.{ltb}
 use Rattle.numbers.specs.declared.Number.{Number}
 use Rattle.request.specs.Refusal as refusedBy
@@ -103,3 +105,20 @@ mostMessages = suc (mostInput / leastMessage)
 -- the most bytes of a printout
 abbrev pub mostPrinted : ℕ
 mostPrinted = mostBoardBytes + mostMessages * mostMessageBytes + mostTotalsBytes + mostRegistersBytes
+
+-- ---- printed into lent bytes
+
+-- the text put where so many bytes are lent: none where they might not do, otherwise the printout of as much of the input as is read
+unfoldable pub printedText : List ℕ → ℕ → List ℕ
+printedText input lent = cond (ltb lent mostPrinted) [] (printout (take mostInput input))
+
+-- the lent bytes afterwards: that text at their front, and every byte behind it as it was
+unfoldable pub afterPrint : List ℕ → List ℕ → List ℕ
+afterPrint input out =
+    let text = printedText input (length out) in
+    text ++ drop (length text) out
+
+-- what printing does with the input, where the lent bytes were out and are out′, and n is returned
+pub record Printed (input out out′ : List ℕ) (n : ℕ) : Type 0 where
+  pub returned : n ≡ length (printedText input (length out))
+  pub after : out′ ≡ afterPrint input out

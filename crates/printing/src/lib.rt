@@ -1,4 +1,5 @@
 // The printout of an input, written to standard output.
+use libc::STDERR_FILENO;
 use libc::STDOUT_FILENO;
 use sheet::MOST_PRINTED;
 ghost use mathlib.Core.Path.{_≡_};
@@ -12,12 +13,22 @@ fn page() -> [u8; MOST_PRINTED]
     [0; MOST_PRINTED]
 }
 
+// Writes a text to standard output; where it could not be written, a line on standard error says so.
+fn write_text(text: &[u8]) {
+    if !io::write_all(STDOUT_FILENO, text) {
+        io::write_all(
+            STDERR_FILENO,
+            b"printout: the output could not be written\n",
+        );
+    }
+}
+
 // Writes the printout of the input to standard output and returns how many bytes it has.
 pub fn write_printout(input: &[u8]) -> usize
     ensures { λ n. ⌜ n ≡ length (printout (take mostInput (now (input .entry)))) ⌝ }
 {
     let mut out = page();
     let n = sheet::print(&mut out, input);
-    io::write_all(STDOUT_FILENO, &out[..n]);
+    write_text(&out[..n]);
     n
 }

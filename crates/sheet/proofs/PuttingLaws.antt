@@ -1,5 +1,5 @@
 -- Laws of hearing and putting, in this order: a message that is taken in; lines; the loop over all that is found; the whole printout.
-use Prim.Native.Nat.{ℕ, suc, _+_, _*_, _-_, _≤_, _<_, _^_}
+use Prim.Native.Nat.{ℕ, _+_, _*_, _-_, _≤_, _<_, _^_}
 use mathlib.Core.Path.{_≡_, refl, sym, ap, _∙_, subst}
 use mathlib.Core.Bool.{Bool, true, false}
 use mathlib.Core.List.{List, _++_}
@@ -15,9 +15,6 @@ use Rattle.report.specs.Lines.{boardLine, refusedLine, messageLine, unreadLine,
 use Rattle.report.specs.Sizes.{mostMessageBytes}
 use Rattle.report.proofs.SizeLaws.{unread-short}
 use Rattle.creek.specs.declared.Answer.{Answer as Reply}
-use Rattle.request.specs.Operations.{lastRegister}
-use Rattle.registers.proofs.ReplayLaws.{replay-length}
-use Rattle.creek.specs.Execution.{registers, board, operations}
 use Rattle.creek.specs.Book.{Call}
 use Rattle.creek.specs.Calls.{Replica, badShop, freshRefusal, fresh, step, answer}
 use Rattle.creek.specs.Showing.{undosShown, executionsShown}
@@ -230,10 +227,6 @@ pub printout-good : (s : List ℕ) → shopBytes ≤ length s → badShop (getD 
     ++ closing (afterAll (fresh (getD s 0 0) (getD s 1 0)) (foundFrom s shopBytes)))
 unfolding printout printoutOf
 printout-good s h e = rw (le-ltb (length s) shopBytes h, e)
-
-pub registers-count : (r : Replica) → length (registersShown r) ≡ suc lastRegister
-unfolding registers
-registers-count r = replay-length (operations (board (r .book .execution)))
 
 pub closing-is : (r : Replica) (settled unsettled undone carried : ℕ) (values : List ℕ) → settled ≡ committedShown r
     → unsettled ≡ length (r .book .plan .tentative) → undone ≡ undosShown r → carried ≡ executionsShown r

@@ -1,2 +1,2 @@
--- The printout as a definition of the input's bytes, and what the functions that put it promise.
+-- What the functions that put the printout promise each other.
 pub mod Putting

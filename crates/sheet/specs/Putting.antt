@@ -1,9 +1,9 @@
--- What the functions that put the printout promise.
-use Prim.Native.Nat.{ℕ, _+_, _*_, _≤_, _<_}
+-- What the functions that put the printout promise each other; what `print` promises is `Printed` of `printed`.
+use Prim.Native.Nat.{ℕ, _+_, _*_, _≤_}
 use mathlib.Core.Path.{_≡_}
 use mathlib.Core.Bool.{false}
 use mathlib.Core.List.{List}
-use lib.ListN.{length, take, getD}
+use lib.ListN.{length, getD}
 use Rattle.text.specs.Placed.{Placed}
 use Rattle.report.specs.Sizes.{mostMessageBytes, mostTotalsBytes, mostRegistersBytes}
 use Rattle.counters.specs.declared.Counters.{Counters}
@@ -18,7 +18,7 @@ use Rattle.sheet.specs.declared.Heard.{Heard}
 use Rattle.sheet.specs.declared.Ended.{Ended}
 use Rattle.intake.specs.Found.{foundFrom}
 use Rattle.printed.specs.Printout.{after, afterAll, refusalIn, undoneIn, lineOfMessage, lineFor, shopBytes}
-use Rattle.printed.specs.Printout.{messageLines, closing, mostMessages, mostInput, mostPrinted, printout}
+use Rattle.printed.specs.Printout.{messageLines, closing, mostMessages, mostPrinted, printout}
 
 -- q stands for the replica r
 pub record Stands (q : State) (r : Replica) : Type 0 where
@@ -86,8 +86,3 @@ pub record Opens (s : List ℕ) (q : State) : Type 0 where
 pub record PrintoutPut (input out out′ : List ℕ) (behind : ℕ) : Type 0 where
   pub written : Placed out 0 (printout input) out′ behind
   pub few : behind ≤ mostPrinted
-
--- the whole printout: lent bytes that might not do are left alone and 0 is returned; otherwise it stands at their front
-pub record Printed (input out out′ : List ℕ) (behind : ℕ) : Type 0 where
-  pub short : length out < mostPrinted → (out′ ≡ out) × (behind ≡ 0)
-  pub whole : mostPrinted ≤ length out → PrintoutPut (take mostInput input) out out′ behind

@@ -1,5 +1,4 @@
-// The printout of document 01: one definition of the input's bytes, `printout` of `specs/Sheet`, and `print`, which puts it into lent
-// bytes.
+// The printout of document 01, which is one definition of the input's bytes, `printout` of `printed`, put into lent bytes by `print`.
 //
 // The panel's memory is the local arrays of `put_printout`, which are lent to all that is called from there; its core and its counters
 // are handed on by value.
@@ -23,9 +22,9 @@ ghost use Rattle.replica.specs.State.{packed};
 ghost use Rattle.replica.specs.internal.Model.{model, Inv};
 ghost use Rattle.wire.specs.Message.{said};
 ghost use Rattle.intake.specs.internal.Passing.{takenOf};
-ghost use Rattle.printed.specs.Printout.{shopBytes, mostMessages, mostInput, mostPrinted};
+ghost use Rattle.printed.specs.Printout.{shopBytes, mostMessages, mostInput, mostPrinted, Printed};
 ghost use Rattle.sheet.specs.Putting.{TakenIn, HeardAs, MessageLinePut, LinePut, AllPut};
-ghost use Rattle.sheet.specs.Putting.{ClosingAsks, ClosingPut, Opens, PrintoutPut, Printed};
+ghost use Rattle.sheet.specs.Putting.{ClosingAsks, ClosingPut, Opens, PrintoutPut};
 
 // At most so many bytes of the input are read.
 pub const MOST_INPUT: usize = 65536;

@@ -3,6 +3,7 @@ use mathlib.Core.Path.{sym}
 use native.Mathlib.Omega.{arith}
 use lib.Seq.{length-take-le}
 use borrow.Author.Needs.{needs}
+use Rattle.printed.proofs.PrintedLaws.{returned-whole, returned-within}
 use Rattle.printing.proofs.write_printout.Statement.{statement}
 use Rattle.printing.proofs.write_printout.Tie as tie
 
@@ -17,22 +18,21 @@ print-requires c κs = search needs
 
 array-share-prefix-out : tie.Need-array-share-prefix-out
 array-share-prefix-out c =
-    let size = c .before .before .before .page .ensures in
-    let put = c .before .print .ensures .whole (omega (arith, size)) in
-    omega (arith, size, put .few, c .before .print .kept .0)
+    let p = c .before .print in
+    omega (arith, c .before .before .before .page .ensures, returned-within (p .ensures) (p .kept .0), p .kept .0)
 
-slice-aggregate-write-all : tie.Need-slice-aggregate-write-all
-slice-aggregate-write-all c =
+slice-aggregate-write-text : tie.Need-slice-aggregate-write-text
+slice-aggregate-write-text c =
     let p = c .before .before .print in
     sym (length-take-le (p .result) (p .last .0) (array-share-prefix-out (c .before)))
 
-write-all-requires : tie.Need-write-all-requires
-write-all-requires c κs = search needs
+write-text-requires : tie.Need-write-text-requires
+write-text-requires c κs = search needs
 
 returns : tie.Need-returns
 returns c =
     let put = c .before .before .before in
-    omega (arith, put .print .ensures .whole (omega (arith, put .before .before .page .ensures)) .written .place)
+    returned-whole (put .print .ensures) (omega (arith, put .before .before .page .ensures))
 
 pub write-printout-spec : {M : Type 1} → statement M
 write-printout-spec =
@@ -42,6 +42,6 @@ write-printout-spec =
     slice-aggregate-print
     print-requires
     array-share-prefix-out
-    slice-aggregate-write-all
-    write-all-requires
+    slice-aggregate-write-text
+    write-text-requires
     returns)

@@ -1,9 +1,10 @@
 -- `print` meets its contract.
 use native.Mathlib.Omega.{arith}
-use mathlib.Core.Path.{_≡_, refl, sym}
+use mathlib.Core.Path.{_≡_, sym}
 use lib.ListN.{length, take}
 use lib.Seq.{take-all, length-take-le}
 use Rattle.printed.specs.Printout.{mostInput}
+use Rattle.printed.proofs.PrintedLaws.{printed-none, printed-whole}
 use borrow.Author.Needs.{needs}
 use Rattle.sheet.proofs.print.Statement.{statement}
 use Rattle.sheet.proofs.print.Tie as tie
@@ -21,7 +22,7 @@ cut : (c : tie.Else2) → let input = c .before .before .before .before .args .i
 cut c = length-take-le mostInput (c .before .before .before .before .args .input .now) (omega (arith, c .if2 .left))
 
 returns : tie.Need-returns
-returns c = record { short = λ h. (refl, refl); whole = λ h. absurd (omega (arith, h, c .if1 .taken)) }
+returns c = printed-none _ _ (omega (arith, c .if1 .taken))
 
 put-printout-requires : tie.Need-put-printout-requires
 put-printout-requires c κs = search needs
@@ -30,10 +31,12 @@ same-length : tie.Need-same-length
 same-length c = search needs
 
 returns-2 : tie.Need-returns-2
-returns-2 c = record {
-  short = λ h. absurd (omega (arith, h, else-1-from-after-slice-known2 c .if1 .left));
-  whole = λ h. rw (take-all mostInput _ (c .before .before .before .before .if2 .taken)) (c .before .before .put-printout .ensures);
-}
+returns-2 c =
+    let put = c .before .before .put-printout .ensures in
+    let enough = else-1-from-after-slice-known2 c in
+    let input = enough .before .before .before .args .input .now in
+    let all = take-all mostInput input (c .before .before .before .before .if2 .taken) in
+    printed-whole input _ _ _ (omega (arith, enough .if1 .left)) (put .few) (rw all (put .written))
 
 slice-aggregate-put-printout : tie.Need-slice-aggregate-put-printout
 slice-aggregate-put-printout c = sym (cut (c .before .before))
@@ -46,10 +49,9 @@ same-length-2 : tie.Need-same-length-2
 same-length-2 c = search needs
 
 returns-3 : tie.Need-returns-3
-returns-3 c = record {
-  short = λ h. absurd (omega (arith, h, else-1-from-after-slice-known3 c .if1 .left));
-  whole = λ h. c .before .before .put-printout2 .ensures;
-}
+returns-3 c =
+    let put = c .before .before .put-printout2 .ensures in
+    printed-whole _ _ _ _ (omega (arith, else-1-from-after-slice-known3 c .if1 .left)) (put .few) (put .written)
 
 pub print-spec : {M : Type 1} → statement M
 print-spec =

@@ -12,7 +12,8 @@ use Rattle.replica.specs.State.{State}
 use Rattle.replica.specs.internal.Model.{model, Inv}
 use Rattle.replica.proofs.ShowingLaws.{all-registers-are}
 use Rattle.sheet.specs.Putting.{closingParts}
-use Rattle.sheet.proofs.PuttingLaws.{registers-count, closing-is}
+use Rattle.printed.proofs.SizeLaws.{registers-count}
+use Rattle.sheet.proofs.PuttingLaws.{closing-is}
 use borrow.Author.Needs.{needs}
 use Rattle.sheet.proofs.put_closing.Statement.{statement}
 use Rattle.sheet.proofs.put_closing.Tie as tie
