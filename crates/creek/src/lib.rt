@@ -1,5 +1,8 @@
 // The protocol over lists of requests: what a caller hands to invoke and what every call answers are types here, shared by the
 // definitions in `specs/` and by the code. The rest of the crate is definitions, and theorems about them in `proofs/`.
+//
+// Numbers in brackets there are lines of Algorithm 1, and A2 those of Algorithm 2, in T. Kobus, M. Kokociński, P. T. Wojciechowski, "Creek:
+// Low-latency, Mixed-Consistency Transactional Replication Scheme", Institute of Computing Science, Poznań University of Technology.
 pub mod mark;
 
 use numbers::Clock;
