@@ -195,7 +195,8 @@ mizzencord_answer mizzencord_deliver(mizzencord_panel *panel, mizzencord_request
 /* The strong request of that number is settled; the answer has the response and mark of its stable reply where it falls due at once. */
 mizzencord_answer mizzencord_commit(mizzencord_panel *panel, mizzencord_number number);
 
-/* The message at that place of the bytes is read, and heard or settled; at the end of the bytes nothing is taken and nothing refused. */
+/* The message at that place of the bytes is read, and heard or settled; at the end of the bytes nothing is taken and nothing refused. A
+ * settlement refused as not here or as waiting is to be handed over again before any later one: docs/EMBED.md. */
 mizzencord_receipt mizzencord_receive(mizzencord_panel *panel, const uint8_t *bytes, size_t length, size_t at);
 
 /* The first request of the rollback list is undone; the answer names it. */

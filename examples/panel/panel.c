@@ -60,7 +60,8 @@ static void settle(int panel, mizzencord_number number) {
     spread(true, (mizzencord_request){.number = number});
 }
 
-/* Takes what is new on the bus; what a panel put there itself comes back to it and is refused. */
+/* Takes what is new on the bus; what a panel put there itself comes back to it and is refused. Nothing is lost on this bus, so no
+ * settlement comes too early (9, 12); docs/EMBED.md has one on which it does. */
 static void listen(int panel) {
     station *here = &stations[panel];
     for (;;) {
