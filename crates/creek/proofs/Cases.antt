@@ -25,7 +25,8 @@ use Rattle.creek.specs.Demand.{mostUndos}
 use Rattle.creek.specs.examples.Notation.{Case, onRegisters, onBoard, answers, spreads, eventsAndClocks, numbers, driven}
 use Rattle.creek.specs.examples.Cases.{standing, worked, afterWorked, nineNineEight, cases}
 use Rattle.creek.specs.examples.Faults.{strongHeard, twiceChanged, overtaken, falling, overtaking, faults, reaching}
-use Rattle.creek.specs.examples.Answers.{requestFields, answerFields, told, answerCases, registerAt, placeAt, counts, bothHeld, shownCases}
+use Rattle.creek.specs.examples.Answers.{requestFields, answerFields, fieldsTold, answerCases}
+use Rattle.creek.specs.examples.Answers.{registerAt, placeAt, counts, bothHeld, shownCases}
 use Rattle.creek.specs.examples.Readings.{madeAndHeard, readings, sumAfter, moveReadings}
 
 pub edge-cases : map (λ (c : Case). c .computed) cases ≡ map (λ (c : Case). c .said) cases
@@ -40,7 +41,7 @@ edge-cases = refl
 
 -- each kind of answer, in every field
 pub answers-told : map (λ (c : Case). c .computed) answerCases ≡ map (λ (c : Case). c .said) answerCases
-unfolding answerCases told answerFields requestFields answers freshRefusal sameNumber badNumber sameOperation badOperation sameAsked badAsked sameWords sameContext allZero
+unfolding answerCases fieldsTold answerFields requestFields answers freshRefusal sameNumber badNumber sameOperation badOperation sameAsked badAsked sameWords sameContext allZero
     isEmpty namesFrom bit member join leave lackedWords difference subset lowestFrom lowest lowestLacking trailingZeros before sameRequest badContext
     offBoard added claimed amountMoved moved exec response replayOn replay lastEvent lastClock entered without atLeast made committing
     committingFound invokeRefusal deliverRefusal commitRefusal registers adjusted undone undoRefusal executedNext executeRefusal refusal

@@ -22,7 +22,7 @@ use Rattle.creek.specs.Calls.{Replica}
 use Rattle.creek.specs.internal.Sound.{Sound}
 use Rattle.creek.specs.internal.SoundAwaiting.{SoundAwaiting}
 use Rattle.replica.specs.internal.Model.{orderSlots, boardSlots, orderOf, boardOf, planOf, bookOf, model, Inv}
-use Rattle.existence.specs.Memory.{slotIn, slotsOf, heldBy, onBoard, memoryOf}
+use Rattle.existence.specs.Memory.{slotIn, slotsOf, heldBy, boardBy, memoryOf}
 use Rattle.existence.specs.Existence.{RequestFits}
 use Rattle.existence.proofs.SavedLaws.{board-log}
 use Rattle.existence.proofs.TableLaws.{table-length}
@@ -49,11 +49,11 @@ module _ (r : Replica) (s : Storable r) where
   abbrev e : Execution
   e = r .book .execution
 
-  on-board : Among (s .sound .plan .held) (s .fit) (onBoard r)
+  on-board : Among (s .sound .plan .held) (s .fit) (boardBy r)
   on-board = s .sound .board-held
 
-  board-few : length (onBoard r) ≤ length (heldBy r)
-  board-few = omega (arith, on-board (λ x. true), count-all (onBoard r), count-all (heldBy r))
+  board-few : length (boardBy r) ≤ length (heldBy r)
+  board-few = omega (arith, on-board (λ x. true), count-all (boardBy r), count-all (heldBy r))
 
   -- ---- the map
 
@@ -61,17 +61,17 @@ module _ (r : Replica) (s : Storable r) where
   unfolding memoryOf
   order-slots-are = slots-first (heldBy r)
 
-  board-slots-are : boardSlots (memoryOf r) ≡ map slotIn (onBoard r)
+  board-slots-are : boardSlots (memoryOf r) ≡ map slotIn (boardBy r)
   unfolding memoryOf
-  board-slots-are = slots-first (onBoard r)
+  board-slots-are = slots-first (boardBy r)
 
   order-is : orderOf (memoryOf r) ≡ heldBy r
   unfolding memoryOf
   order-is = ap (map _) order-slots-are ∙ all-read-back (s .sound .plan .held) (s .fit) (heldBy r) (λ test. omega arith)
 
-  board-is : boardOf (memoryOf r) ≡ onBoard r
+  board-is : boardOf (memoryOf r) ≡ boardBy r
   unfolding memoryOf
-  board-is = ap (map _) board-slots-are ∙ all-read-back (s .sound .plan .held) (s .fit) (onBoard r) on-board
+  board-is = ap (map _) board-slots-are ∙ all-read-back (s .sound .plan .held) (s .fit) (boardBy r) on-board
 
   plan-is : planOf (memoryOf r) ≡ r .book .plan
   unfolding planOf memoryOf
@@ -88,7 +88,7 @@ module _ (r : Replica) (s : Storable r) where
         tentative = tentative i;
       }
 
-  execution-is : stacked (onBoard r) (length (r .book .execution .executed)) (heldBy r) ≡ r .book .execution
+  execution-is : stacked (boardBy r) (length (r .book .execution .executed)) (heldBy r) ≡ r .book .execution
   execution-is =
       let executed = take-append-seam (e .executed) (reverse (e .rollback)) in
       let rollback = ap reverse (drop-append-seam (e .executed) (reverse (e .rollback))) ∙ reverse-reverse (e .rollback) in
@@ -107,8 +107,8 @@ module _ (r : Replica) (s : Storable r) where
 
   -- ---- the invariant
 
-  board-fits : All RequestFits (onBoard r)
-  board-fits = all-weaken fits (onBoard r) (none-all isWide (onBoard r) (omega (arith, on-board isWide, s .fit)))
+  board-fits : All RequestFits (boardBy r)
+  board-fits = all-weaken fits (boardBy r) (none-all isWide (boardBy r) (omega (arith, on-board isWide, s .fit)))
 
   pub memory-inv : Inv (memoryOf r)
   unfolding memoryOf
@@ -127,7 +127,7 @@ module _ (r : Replica) (s : Storable r) where
         contexts = table-length mostWords _;
       };
       order = slots-length (heldBy r) (s .sound .few);
-      stack = slots-length (onBoard r) (omega (arith, board-few, s .sound .few));
+      stack = slots-length (boardBy r) (omega (arith, board-few, s .sound .few));
       saved = table-length mostSlots _;
       responses = table-length mostSlots _;
       held = numbers-length (s .sound .plan .held) (s .fit) (heldBy r);
@@ -135,8 +135,8 @@ module _ (r : Replica) (s : Storable r) where
     };
     held = λ slot is. ap (count _) order-slots-are ∙ slots-counted (s .sound .plan .held) (s .fit) slot is;
     order-slots = rw order-slots-are (all-slots (s .sound .plan .held) (s .fit) (heldBy r) (λ test. omega arith));
-    board-slots = rw board-slots-are (all-slots (s .sound .plan .held) (s .fit) (onBoard r) on-board);
-    log = rw board-is (board-log (onBoard r) (omega (arith, board-few, s .sound .few)) board-fits);
+    board-slots = rw board-slots-are (all-slots (s .sound .plan .held) (s .fit) (boardBy r) on-board);
+    log = rw board-is (board-log (boardBy r) (omega (arith, board-few, s .sound .few)) board-fits);
     events = ap lastEvent (sym plan-is);
     clock = ap lastClock (sym plan-is);
     awaiting-own = s .awaiting-own;

@@ -7,14 +7,14 @@ use Rattle.creek.specs.Book.{execute}
 use Rattle.history.specs.Worthless.{PanelCall, single, runDue, singly, Panel, Keeps, firstValue, secondValue, setting}
 use Rattle.history.proofs.Worthless.{no-worthless-panel}
 use Rattle.existence.specs.RightPanel.{rightPanel}
-use Rattle.existence.specs.Existence.{Fits, KeepsFitting, NeverWorthless}
+use Rattle.existence.specs.Existence.{PanelCallFits, KeepsFitting, NeverWorthless}
 use Rattle.existence.proofs.RightPanelKeeps.{right-panel-keeps}
 
 -- where two sets are made, and then those calls
 abbrev afterTwoSets : List PanelCall → List PanelCall
 afterTwoSets more = single (setting firstValue) ∷ single (setting secondValue) ∷ more
 
-kept-two-sets : (panel : Panel) → KeepsFitting panel → (more : List PanelCall) → All Fits more → Keeps panel 1 0 (afterTwoSets more)
+kept-two-sets : (panel : Panel) → KeepsFitting panel → (more : List PanelCall) → All PanelCallFits more → Keeps panel 1 0 (afterTwoSets more)
 kept-two-sets panel keeps more fit = keeps 1 0 (afterTwoSets more) (omega arith, (omega arith, fit))
 
 pub never-worthless : (panel : Panel) → KeepsFitting panel → NeverWorthless panel
@@ -32,7 +32,7 @@ never-worthless panel keeps =
       replies-due-always = λ response always. breaks .replies-due-always response always (two-sets (runDue ∷ []) (tt, tt));
       invents-due-counts = λ panels own calls fit invented.
           breaks .invents-due-counts panels own calls invented (keeps panels own calls fit)
-          (keeps panels own (calls ++ runDue ∷ []) (all-append Fits calls (runDue ∷ []) fit (tt, tt)));
+          (keeps panels own (calls ++ runDue ∷ []) (all-append PanelCallFits calls (runDue ∷ []) fit (tt, tt)));
     }
 
 pub right-panel-never-worthless : NeverWorthless rightPanel

@@ -28,7 +28,7 @@ use Rattle.store.proofs.WordLaws.{asked-read}
 use Rattle.creek.specs.Plan.{hasNumber}
 use Rattle.creek.specs.internal.Sound.{isBad, Held}
 use Rattle.creek.proofs.HeldLaws.{Good, good-request, widened}
-use Rattle.existence.specs.Memory.{orNone, atSlot, slotIn, numbersOf, clocksOf, askedOf, contextsOf}
+use Rattle.existence.specs.Memory.{orNone, atSlot, slotIn, numberSet, clocksOf, askedOf, contextsOf}
 use Rattle.existence.specs.Existence.{RequestFits}
 use Rattle.existence.proofs.TableLaws.{table-at, words-at}
 use Rattle.existence.proofs.WidthLaws.{isWide, fits, narrow}
@@ -97,20 +97,20 @@ module _ {panels own : ℕ} {known : Context} {l : List Request} (h : Held panel
 
   -- ---- the set of their numbers
 
-  pub numbers-length : (m : List Request) → length (numbersOf m .words) ≡ mostPanels
-  unfolding numbersOf
+  pub numbers-length : (m : List Request) → length (numberSet m .words) ≡ mostPanels
+  unfolding numberSet
   numbers-length [] = refl
-  numbers-length (x ∷ xs) = join-length (numbersOf xs) (x .number) ∙ numbers-length xs
+  numbers-length (x ∷ xs) = join-length (numberSet xs) (x .number) ∙ numbers-length xs
 
-  counted : (n : Number) (m : List Request) → Among m → count (hasNumber n) m ≡ one (member (numbersOf m) n)
-  unfolding numbersOf
+  counted : (n : Number) (m : List Request) → Among m → count (hasNumber n) m ≡ one (member (numberSet m) n)
+  unfolding numberSet
   counted n [] among = sym (ap one (member-empty n))
   counted n (x ∷ xs) among =
       let others = counted n xs (fewer x xs among) in
       ap (λ (k : ℕ). one (hasNumber n x) + k) others
-      ∙ either-one (hasNumber n x) (member (numbersOf xs) n) (omega (arith, others, among (hasNumber n), h .distinct n))
-      ∙ ap (λ (b : Bool). one (b || member (numbersOf xs) n)) (sameNumber-sym n (x .number))
-      ∙ ap one (sym (member-join (numbersOf xs) (x .number) n (numbers-length xs) (number-good x xs among)))
+      ∙ either-one (hasNumber n x) (member (numberSet xs) n) (omega (arith, others, among (hasNumber n), h .distinct n))
+      ∙ ap (λ (b : Bool). one (b || member (numberSet xs) n)) (sameNumber-sym n (x .number))
+      ∙ ap one (sym (member-join (numberSet xs) (x .number) n (numbers-length xs) (number-good x xs among)))
 
   by-slot : (slot : ℕ) → IsSlot slot → (m : List Request) → Among m
       → count (eqb slot) (map slotIn m) ≡ count (hasNumber (numberOf slot)) m
@@ -121,5 +121,5 @@ module _ {panels own : ℕ} {known : Context} {l : List Request} (h : Held panel
       ∙ ap (sameNumber (numberOf slot)) (number-of-slot (x .number) (number-good x xs among)) in
       λ i. one (same i) + by-slot slot is xs (fewer x xs among) i
 
-  pub slots-counted : (slot : ℕ) → IsSlot slot → count (eqb slot) (map slotIn l) ≡ one (member (numbersOf l) (numberOf slot))
+  pub slots-counted : (slot : ℕ) → IsSlot slot → count (eqb slot) (map slotIn l) ≡ one (member (numberSet l) (numberOf slot))
   slots-counted slot is = by-slot slot is l (λ test. omega arith) ∙ counted (numberOf slot) l (λ test. omega arith)

@@ -9,11 +9,11 @@ use Rattle.history.specs.History.{Leads}
 use Rattle.history.specs.Worthless.{PanelCall, singly, Panel, standFor, answersFrom, reached}
 use Rattle.history.proofs.Worthless.{kept-leads}
 use Rattle.existence.specs.RightPanel.{rightFresh, rightPanel}
-use Rattle.existence.specs.Existence.{CallFits, Fits, HasHistory}
+use Rattle.existence.specs.Existence.{CallFits, PanelCallFits, HasHistory}
 use Rattle.existence.proofs.RightPanelKeeps.{right-panel-keeps}
 
 -- all due steps at once among them
-pub right-panel-leads : (panels own : ℕ) (calls : List PanelCall) → All Fits calls
+pub right-panel-leads : (panels own : ℕ) (calls : List PanelCall) → All PanelCallFits calls
     → let start = rightFresh panels own .state in
     Leads start (standFor rightPanel start calls) (answersFrom rightPanel start calls) (reached rightPanel panels own calls)
 right-panel-leads panels own calls fit =
@@ -24,7 +24,7 @@ singly-stand : (panel : Panel) (p : State) (calls : List Call) → standFor pane
 singly-stand panel p [] = refl
 singly-stand panel p (c ∷ cs) = ap (λ (l : List Call). c ∷ l) (singly-stand panel (panel .call p c .state) cs)
 
-singly-fit : (calls : List Call) → All CallFits calls → All Fits (singly calls)
+singly-fit : (calls : List Call) → All CallFits calls → All PanelCallFits (singly calls)
 singly-fit [] fit = tt
 singly-fit (c ∷ cs) fit = (fit .0, singly-fit cs (fit .1))
 

@@ -19,8 +19,8 @@ use Rattle.replica.specs.internal.Model.{bookOf, model, Inv}
 use Rattle.due.specs.Due.{RunDue}
 use Rattle.history.specs.Worthless.{PanelCall, single, runDue, next, KeepsCalls, Keeps}
 use Rattle.existence.specs.Memory.{memoryOf}
-use Rattle.existence.specs.RightPanel.{rightFresh, rightCall, rightRunDue, rightRegister, rightPanel}
-use Rattle.existence.specs.Existence.{CallFits, Fits}
+use Rattle.existence.specs.RightPanel.{rightFresh, rightCall, rightRunDue, rightRegister, rightPlace, rightPanel}
+use Rattle.existence.specs.Existence.{CallFits, PanelCallFits}
 use Rattle.existence.proofs.MemoryLaws.{Storable, memory-model, memory-inv}
 use Rattle.existence.proofs.StorableLaws.{step-storable, due-storable, fresh-storable}
 
@@ -86,23 +86,27 @@ module _ (p : State) (s : Storable (model p)) where
 right-fresh-storable : (panels own : ℕ) → Storable (model (rightFresh panels own .state))
 right-fresh-storable panels own = rw (right-fresh panels own .state) (fresh-storable panels own)
 
-right-next-storable : (p : State) (c : PanelCall) → Fits c → Storable (model p) → Storable (model (next rightPanel p c))
+right-next-storable : (p : State) (c : PanelCall) → PanelCallFits c → Storable (model p) → Storable (model (next rightPanel p c))
 right-next-storable p (single c) fit s = rw (right-call-model p s c fit) (step-storable (model p) c fit s)
 right-next-storable p runDue fit s = rw (right-due-model p s) (due-storable (owedShown (model p)) (model p) s)
 
-right-keeps-calls : (p : State) (calls : List PanelCall) → All Fits calls → Storable (model p) → KeepsCalls rightPanel p calls
+right-keeps-calls : (p : State) (calls : List PanelCall) → All PanelCallFits calls → Storable (model p) → KeepsCalls rightPanel p calls
 right-keeps-calls p [] fit s = tt
 right-keeps-calls p (single c ∷ cs) fit s =
     (right-call p s c (fit .0), right-keeps-calls (rightCall p c .state) cs (fit .1) (right-next-storable p (single c) (fit .0) s))
 right-keeps-calls p (runDue ∷ cs) fit s =
     ((λ inv. right-run-due p s), right-keeps-calls (rightRunDue p .state) cs (fit .1) (right-next-storable p runDue (fit .0) s))
 
-pub right-panel-keeps : (panels own : ℕ) (calls : List PanelCall) → All Fits calls → Keeps rightPanel panels own calls
-unfolding rightRegister
+pub right-panel-keeps : (panels own : ℕ) (calls : List PanelCall) → All PanelCallFits calls → Keeps rightPanel panels own calls
+unfolding rightRegister rightPlace
 right-panel-keeps panels own calls fit = record {
   fresh = right-fresh panels own;
   kept = right-keeps-calls (rightFresh panels own .state) calls fit (right-fresh-storable panels own);
-  register = λ k low inv. record { refusal = refl; value = refl };
+  register = λ k inv. record { refusal = refl; value = refl };
+  requests = λ inv. refl;
+  commits = λ inv. refl;
   undos = λ inv. refl;
   executions = λ inv. refl;
+  owed = λ inv. refl;
+  place = λ k inv. record { refusal = refl; request = refl };
 }

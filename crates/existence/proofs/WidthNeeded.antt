@@ -32,7 +32,7 @@ use Rattle.replica.proofs.ModelLaws.{order-is}
 use Rattle.history.specs.Worthless.{PanelCall, Panel, standFor, reached, Keeps}
 use Rattle.history.proofs.History.{panel-inv, panel-replica}
 use Rattle.history.proofs.Worthless.{kept-leads}
-use Rattle.existence.specs.Memory.{heldBy, onBoard}
+use Rattle.existence.specs.Memory.{heldBy, boardBy}
 use Rattle.existence.specs.Existence.{NobodyKeeps, wordless, shortContext, wideCalls, wideAmount}
 
 -- ---- what a memory holds
@@ -44,7 +44,7 @@ module _ (q : State) (inv : Inv q) where
   held-in = sym (order-is q inv)
 
   -- the requests on the board
-  board-in : boardOf q ≡ onBoard (model q)
+  board-in : boardOf q ≡ boardBy (model q)
   unfolding model bookOf
   board-in = sym (stacked-board (boardOf q) (q .executed) (orderOf q))
 
@@ -91,7 +91,7 @@ words-needed panel k =
 -- ---- an amount that is out of range
 
 abbrev wideBoard : List Request
-wideBoard = onBoard (run (fresh 1 0) wideCalls)
+wideBoard = boardBy (run (fresh 1 0) wideCalls)
 
 -- both sets are on the board, and before the second the register is out of range
 record Wide : Type 0 where
@@ -108,7 +108,7 @@ unfolding savedIn
 amount-needed panel k =
     let q = last panel 1 0 wideAmount k in
     let inv = last-inv panel 1 0 wideAmount k in
-    let board : boardOf q ≡ wideBoard = board-in q inv ∙ ap onBoard (last-model panel 1 0 wideAmount k) in
+    let board : boardOf q ≡ wideBoard = board-in q inv ∙ ap boardBy (last-model panel 1 0 wideAmount k) in
     let there : 1 < length (boardOf q) = omega (arith, ap length board, wide .both) in
     let kept = ap (λ (s : Saved). s .r) (inv .log .restores 1 there) in
     let is = ap (λ (l : List Request). savedOf (operationAt l 1) (registersBefore l 1) .r) board ∙ wide .saved in

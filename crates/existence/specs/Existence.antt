@@ -1,5 +1,6 @@
--- What is claimed: the right panel keeps every contract on every list of calls that fit the code's types, each such list has a history,
--- and the right panel is never worthless; and on two lists with a call that does not fit no panel keeps its contracts.
+-- What is claimed: the right panel keeps every contract of `Keeps` on every list of calls that fit the code's types (`right-panel-keeps`),
+-- each such list has a history (`right-panel-history`), and the right panel is never worthless (`right-panel-never-worthless`); and on two
+-- lists with a call that does not fit no panel keeps its contracts (`words-needed`, `amount-needed`).
 use Prim.{Unit}
 use Prim.Native.Nat.{ℕ, _<_}
 use mathlib.Core.Path.{_≡_}
@@ -31,15 +32,15 @@ CallFits (commit n) = Unit {0}
 CallFits undo = Unit {0}
 CallFits execute = Unit {0}
 
-abbrev pub Fits : PanelCall → Type 0
-Fits (single c) = CallFits c
-Fits runDue = Unit {0}
+abbrev pub PanelCallFits : PanelCall → Type 0
+PanelCallFits (single c) = CallFits c
+PanelCallFits runDue = Unit {0}
 
 -- ---- a panel that keeps its contracts on each of them
 
 -- in every shop and on every list of calls that fit
 abbrev pub KeepsFitting : Panel → Type 0
-KeepsFitting panel = (panels own : ℕ) (calls : List PanelCall) → All Fits calls → Keeps panel panels own calls
+KeepsFitting panel = (panels own : ℕ) (calls : List PanelCall) → All PanelCallFits calls → Keeps panel panels own calls
 
 -- a panel of that shop on which exactly those calls were called
 pub record HasHistory (panels own : ℕ) (calls : List Call) : Type 0 where
@@ -52,10 +53,10 @@ pub record NeverWorthless (panel : Panel) : Type 0 where
   pub replies-always : (response : ℕ) → RepliesAlways panel response → ⊥
   pub leaves-alone : LeavesAlone panel → ⊥
   pub executes-all : ExecutesAll panel → ⊥
-  pub invents-counters : (panels own : ℕ) (calls : List PanelCall) → All Fits calls → InventsCounters panel panels own calls → ⊥
+  pub invents-counters : (panels own : ℕ) (calls : List PanelCall) → All PanelCallFits calls → InventsCounters panel panels own calls → ⊥
   pub leaves-due : LeavesDue panel → ⊥
   pub replies-due-always : (response : ℕ) → RepliesDueAlways panel response → ⊥
-  pub invents-due-counts : (panels own : ℕ) (calls : List PanelCall) → All Fits calls → InventsDueCounts panel panels own calls → ⊥
+  pub invents-due-counts : (panels own : ℕ) (calls : List PanelCall) → All PanelCallFits calls → InventsDueCounts panel panels own calls → ⊥
 
 -- ---- that the calls fit is needed
 

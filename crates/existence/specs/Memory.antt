@@ -46,9 +46,9 @@ abbrev pub slotsOf : List Request → List ℕ
 slotsOf l = map slotIn l ++ replicate (mostSlots - length l) 0
 
 -- the numbers of l
-unfoldable pub numbersOf : List Request → Context
-numbersOf [] = emptySet
-numbersOf (x ∷ xs) = join (numbersOf xs) (x .number)
+unfoldable pub numberSet : List Request → Context
+numberSet [] = emptySet
+numberSet (x ∷ xs) = join (numberSet xs) (x .number)
 
 -- by slot what l has there: the clocks, the words of what is asked for, the words of the contexts
 abbrev pub clocksOf : List Request → List ℕ
@@ -74,8 +74,8 @@ abbrev pub heldBy : Replica → List Request
 heldBy r = order (r .book .plan)
 
 -- the requests on the board
-abbrev pub onBoard : Replica → List Request
-onBoard r = board (r .book .execution)
+abbrev pub boardBy : Replica → List Request
+boardBy r = board (r .book .execution)
 
 -- the memory of a panel whose replica is r
 unfoldable pub memoryOf : Replica → State
@@ -87,18 +87,18 @@ memoryOf r = record {
   committed = length (r .book .plan .committed);
   ordered = length (heldBy r);
   executed = length (r .book .execution .executed);
-  stacked = length (onBoard r);
+  stacked = length (boardBy r);
   commits = r .commits;
   counters = r .counters;
-  held = numbersOf (heldBy r);
+  held = numberSet (heldBy r);
   known = r .book .plan .known;
   awaiting = r .awaiting;
   clocks = clocksOf (heldBy r);
   operations = askedOf (heldBy r);
   contexts = contextsOf (heldBy r);
   order = slotsOf (heldBy r);
-  stack = slotsOf (onBoard r);
-  registers = replay (operations (onBoard r));
-  saved = savedOn (onBoard r);
-  responses = responsesOn (onBoard r);
+  stack = slotsOf (boardBy r);
+  registers = replay (operations (boardBy r));
+  saved = savedOn (boardBy r);
+  responses = responsesOn (boardBy r);
 }

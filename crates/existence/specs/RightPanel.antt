@@ -6,10 +6,12 @@ use lib.ListN.{length}
 use Rattle.creek.specs.Book.{Call, isAccepted}
 use Rattle.creek.specs.Calls.{freshRefusal, fresh, step, answer}
 use Rattle.creek.specs.History.{idled}
-use Rattle.creek.specs.Showing.{registerRefusal, registerShown, undosShown, executionsShown}
+use Rattle.creek.specs.Showing.{registerRefusal, registerShown, requestsShown, commitsShown, undosShown, executionsShown, owedShown}
+use Rattle.creek.specs.Showing.{placeRefusal, placeShown}
 use Rattle.replica.specs.State.{State, Opened, Called}
 use Rattle.replica.specs.internal.Model.{bookOf, model}
 use Rattle.replica.specs.declared.RegisterValue.{RegisterValue}
+use Rattle.replica.specs.declared.PlacedRequest.{PlacedRequest}
 use Rattle.due.specs.Due.{DueOutcome, padded, repliesOwed}
 use Rattle.history.specs.Worthless.{Panel}
 use Rattle.existence.specs.Memory.{memoryOf}
@@ -36,13 +38,21 @@ rightRunDue p = record {
 unfoldable pub rightRegister : State → ℕ → RegisterValue
 rightRegister p k = record { refusal = registerRefusal k; value = registerShown (model p) k }
 
--- these and the step counters, shown
+-- the request at a place, shown
+unfoldable pub rightPlace : State → ℕ → PlacedRequest
+rightPlace p place = record { refusal = placeRefusal (model p) place; request = placeShown (model p) place }
+
+-- these and the counts, shown
 abbrev pub rightPanel : Panel
 rightPanel = record {
   fresh = rightFresh;
   call = rightCall;
   run-due = rightRunDue;
   register = rightRegister;
+  requests = λ p. requestsShown (model p);
+  commits = λ p. commitsShown (model p);
   undos = λ p. undosShown (model p);
   executions = λ p. executionsShown (model p);
+  owed = λ p. owedShown (model p);
+  place = rightPlace;
 }

@@ -185,7 +185,7 @@ module _ (panel : Panel) where
       omega (
         arith,
         all 1 0 (twoSets []) 0 (omega arith) (ap executionsShown made ∙ computed .none-executed) (cc accepted),
-        k .register 0 (omega arith) (inv 1 0 calls (k .fresh) (k .kept)) .value,
+        k .register 0 (inv 1 0 calls (k .fresh) (k .kept)) .value,
         ap (λ (r : Replica). registerShown r 0) (replica 1 0 calls (k .fresh) (k .kept)),
         ap (λ (r : Replica). getD (replay (operations (r .book .execution .todo))) 0 0) made,
         computed .one-executed,

@@ -14,14 +14,15 @@ use Rattle.creek.specs.declared.Answer.{Answer}
 use Rattle.creek.specs.Execution.{operations}
 use Rattle.creek.specs.Book.{Call, execute}
 use Rattle.creek.specs.Calls.{isUndo, isExecute}
-use Rattle.creek.specs.Showing.{undosShown, executionsShown}
+use Rattle.creek.specs.Showing.{requestsShown, commitsShown, undosShown, executionsShown, owedShown}
 use Rattle.creek.specs.examples.Notation.{setTo, make}
 use Rattle.replica.specs.State.{State, Opened, Called}
 use Rattle.due.specs.Due.{DueOutcome, noReply, RunDue}
 use Rattle.replica.specs.declared.RegisterValue.{RegisterValue}
+use Rattle.replica.specs.declared.PlacedRequest.{PlacedRequest}
 use Rattle.replica.specs.Promises.{Fresh, Kept}
 use Rattle.replica.specs.internal.Model.{model, Inv}
-use Rattle.replica.specs.Shown.{RegisterShown}
+use Rattle.replica.specs.Shown.{RegisterShown, PlaceShown}
 use Rattle.history.specs.History.{stepsDue, answersDue, acceptedCalls}
 
 -- what may be called on a panel: one of the five calls, or all due steps at once
@@ -38,15 +39,18 @@ standsFor p runDue = stepsDue p
 abbrev pub singly : List Call → List PanelCall
 singly calls = map single calls
 
--- a panel as its callers see it: any functions for fresh, for the five calls, for all due steps at once, and for the calls that show a
--- register and the step counters
+-- a panel as its callers see it: any functions for fresh, for the five calls, for all due steps at once, and for the showing calls
 pub record Panel : Type 0 where
   pub fresh : ℕ → ℕ → Opened
   pub call : State → Call → Called
   pub run-due : State → DueOutcome
   pub register : State → ℕ → RegisterValue
+  pub requests : State → ℕ
+  pub commits : State → ℕ
   pub undos : State → ℕ
   pub executions : State → ℕ
+  pub owed : State → ℕ
+  pub place : State → ℕ → PlacedRequest
 
 -- ---- a panel that keeps its contracts
 
@@ -94,9 +98,13 @@ module _ (panel : Panel) where
   pub record Keeps (panels own : ℕ) (calls : List PanelCall) : Type 0 where
     pub fresh : Fresh panels own (panel .fresh panels own)
     pub kept : KeepsCalls (panel .fresh panels own .state) calls
-    pub register : (k : ℕ) → k ≤ lastRegister → let q = reached panels own calls in Inv q → RegisterShown q k (panel .register q k)
+    pub register : (k : ℕ) → let q = reached panels own calls in Inv q → RegisterShown q k (panel .register q k)
+    pub requests : let q = reached panels own calls in Inv q → panel .requests q ≡ requestsShown (model q)
+    pub commits : let q = reached panels own calls in Inv q → panel .commits q ≡ commitsShown (model q)
     pub undos : let q = reached panels own calls in Inv q → panel .undos q ≡ undosShown (model q)
     pub executions : let q = reached panels own calls in Inv q → panel .executions q ≡ executionsShown (model q)
+    pub owed : let q = reached panels own calls in Inv q → panel .owed q ≡ owedShown (model q)
+    pub place : (k : ℕ) → let q = reached panels own calls in Inv q → PlaceShown q k (panel .place q k)
 
   -- ---- five ways to be worthless
 

@@ -1,5 +1,5 @@
 -- A case for each kind of answer, in every field, and for each showing call at its first, last and refused arguments: what the definitions
--- compute beside what document 01 says. That the two are equal is `answers-told` and `shown-told` in `proofs/Cases`.
+-- compute beside what document 01 says, which are equal by `answers-told` and `shown-told` in `proofs/Cases`.
 use Prim.Native.Nat.{ℕ}
 use mathlib.Core.List.{List, [], _∷_, _++_}
 use lib.ListN.{replicate}
@@ -47,8 +47,8 @@ abbrev pub after : List Call → Replica
 after calls = run (fresh 2 0) calls
 
 -- what that call answers then, in every field
-unfoldable pub told : List Call → Call → List ℕ
-told calls c = answerFields (answer (after calls) c)
+unfoldable pub fieldsTold : List Call → Call → List ℕ
+fieldsTold calls c = answerFields (answer (after calls) c)
 
 -- a weak request of panel 1 is heard, one that sets register 63 to 8
 abbrev pub hear : Call
@@ -59,52 +59,75 @@ abbrev pub claiming : Call
 claiming = makeStrong 20 (claim 0 5)
 
 -- a strong request of panel 1 is heard whose context names 1/2, 0/9 and 0/8, none of which is known
-abbrev pub waiting : Call
-waiting = deliver (strong 1 4 30 (read 0) (join (join (join emptySet (numbered 1 2)) (numbered 0 9)) (numbered 0 8)))
+abbrev pub lackingContext : Call
+lackingContext = deliver (strong 1 4 30 (read 0) (join (join (join emptySet (numbered 1 2)) (numbered 0 9)) (numbered 0 8)))
 
 -- a request that comes before both that are carried out is heard, so that both are to be undone
-abbrev pub overtaken : List Call
-overtaken = hear ∷ claiming ∷ execute ∷ execute ∷ deliver (weak 1 2 1 (add 3 0)) ∷ []
+abbrev pub overtakingCalls : List Call
+overtakingCalls = hear ∷ claiming ∷ execute ∷ execute ∷ deliver (weak 1 2 1 (add 3 0)) ∷ []
+
+-- an own weak request is settled with a strong one that names it, before it is carried out
+abbrev pub settledWeak : List Call
+settledWeak = make 7 (add 3 4) ∷ deliver (strong 1 1 20 (read 0) (join emptySet (numbered 0 1))) ∷ commit (numbered 1 1) ∷ []
+
+-- a strong request is heard whose context names itself
+abbrev pub namesItself : Call
+namesItself = deliver (strong 1 1 5 (read 0) (join emptySet (numbered 1 1)))
 
 -- ---- the answers
 
 unfoldable pub answerCases : List Case
 answerCases =
     -- make: the request to be spread, and zeros elsewhere
-    case (told [] (make 7 (add 3 4)))
+    case (fieldsTold [] (make 7 (add 3 4)))
     (refused.accepted ∷ 0 ∷ 0 ∷ 0 ∷ noMark ∷ 0 ∷ 1 ∷ 7 ∷ codeAdd ∷ 4 ∷ 0 ∷ 3 ∷ 0 ∷ replicate mostPanels 0)
     -- a strong one with its context, here {1/1}
-    ∷ case (told (hear ∷ []) claiming)
+    ∷ case (fieldsTold (hear ∷ []) claiming)
     (refused.accepted ∷ 0 ∷ 0 ∷ 0 ∷ noMark ∷ 0 ∷ 1 ∷ 20 ∷ codeClaim ∷ 0 ∷ 0 ∷ 5 ∷ 1 ∷ 0 ∷ 1 ∷ replicate 6 0)
     -- refused
-    ∷ case (told [] (make 7 (claim 0 0))) (refusalAlone refused.badOperation)
+    ∷ case (fieldsTold [] (make 7 (claim 0 0))) (refusalAlone refused.badOperation)
     -- hear: zeros; refused
-    ∷ case (told [] hear) (refusalAlone refused.accepted)
-    ∷ case (told (hear ∷ []) hear) (refusalAlone refused.heldAlready)
+    ∷ case (fieldsTold [] hear) (refusalAlone refused.accepted)
+    ∷ case (fieldsTold (hear ∷ []) hear) (refusalAlone refused.heldAlready)
     -- settle: zeros where no reply is due; response and mark 3, and no number, where one is
-    ∷ case (told (deliver (strong 1 1 5 (read 0) emptySet) ∷ []) (commit (numbered 1 1))) (refusalAlone refused.accepted)
-    ∷ case (told (claiming ∷ execute ∷ []) (commit (numbered 0 1))) (spreadsNothing refused.accepted 0 0 5 stableMark)
+    ∷ case (fieldsTold (deliver (strong 1 1 5 (read 0) emptySet) ∷ []) (commit (numbered 1 1))) (refusalAlone refused.accepted)
+    ∷ case (fieldsTold (claiming ∷ execute ∷ []) (commit (numbered 0 1))) (spreadsNothing refused.accepted 0 0 5 stableMark)
     -- refused; 12 names the missing number, lowest panel and then lowest event
-    ∷ case (told [] (commit (numbered 1 1))) (refusalAlone refused.notHere)
-    ∷ case (told (waiting ∷ []) (commit (numbered 1 4))) (spreadsNothing refused.waits 0 8 0 noMark)
+    ∷ case (fieldsTold [] (commit (numbered 1 1))) (refusalAlone refused.notHere)
+    ∷ case (fieldsTold (lackingContext ∷ []) (commit (numbered 1 4))) (spreadsNothing refused.waits 0 8 0 noMark)
     -- undo: the number, last first; refused
-    ∷ case (told overtaken undo) (spreadsNothing refused.accepted 0 1 0 noMark)
-    ∷ case (told (overtaken ++ undo ∷ []) undo) (spreadsNothing refused.accepted 1 1 0 noMark)
-    ∷ case (told (overtaken ++ undo ∷ undo ∷ []) undo) (refusalAlone refused.nothingToUndo)
+    ∷ case (fieldsTold overtakingCalls undo) (spreadsNothing refused.accepted 0 1 0 noMark)
+    ∷ case (fieldsTold (overtakingCalls ++ undo ∷ []) undo) (spreadsNothing refused.accepted 1 1 0 noMark)
+    ∷ case (fieldsTold (overtakingCalls ++ undo ∷ undo ∷ []) undo) (refusalAlone refused.nothingToUndo)
     -- carry out: number, response and mark: nobody waits, weak, tentative, stable
-    ∷ case (told (hear ∷ []) execute) (spreadsNothing refused.accepted 1 1 0 noMark)
-    ∷ case (told (make 7 (add 3 4) ∷ []) execute) (spreadsNothing refused.accepted 0 1 3 weakMark)
-    ∷ case (told (claiming ∷ []) execute) (spreadsNothing refused.accepted 0 1 5 tentativeMark)
-    ∷ case (told (claiming ∷ commit (numbered 0 1) ∷ []) execute) (spreadsNothing refused.accepted 0 1 5 stableMark)
+    ∷ case (fieldsTold (hear ∷ []) execute) (spreadsNothing refused.accepted 1 1 0 noMark)
+    ∷ case (fieldsTold (make 7 (add 3 4) ∷ []) execute) (spreadsNothing refused.accepted 0 1 3 weakMark)
+    ∷ case (fieldsTold (claiming ∷ []) execute) (spreadsNothing refused.accepted 0 1 5 tentativeMark)
+    ∷ case (fieldsTold (claiming ∷ commit (numbered 0 1) ∷ []) execute) (spreadsNothing refused.accepted 0 1 5 stableMark)
     -- a move of 0 responds 0, as document 02's request (i) has it
-    ∷ case (told (make 7 (move 0 1 2) ∷ []) execute) (spreadsNothing refused.accepted 0 1 0 weakMark)
+    ∷ case (fieldsTold (make 7 (move 0 1 2) ∷ []) execute) (spreadsNothing refused.accepted 0 1 0 weakMark)
     -- refused while an undo is due
-    ∷ case (told overtaken execute) (refusalAlone refused.undoFirst)
+    ∷ case (fieldsTold overtakingCalls execute) (refusalAlone refused.undoFirst)
     -- on an idle panel, one that has stepped too
-    ∷ case (told [] execute) (refusalAlone refused.nothingToDo)
-    ∷ case (told [] undo) (refusalAlone refused.nothingToUndo)
-    ∷ case (told (make 7 (read 0) ∷ execute ∷ []) execute) (refusalAlone refused.nothingToDo)
-    ∷ case (told (make 7 (read 0) ∷ execute ∷ []) undo) (refusalAlone refused.nothingToUndo)
+    ∷ case (fieldsTold [] execute) (refusalAlone refused.nothingToDo)
+    ∷ case (fieldsTold [] undo) (refusalAlone refused.nothingToUndo)
+    ∷ case (fieldsTold (make 7 (read 0) ∷ execute ∷ []) execute) (refusalAlone refused.nothingToDo)
+    ∷ case (fieldsTold (make 7 (read 0) ∷ execute ∷ []) undo) (refusalAlone refused.nothingToUndo)
+    -- the response also where nobody waits
+    ∷ case (fieldsTold (deliver (weak 1 1 10 (add 3 4)) ∷ []) execute) (spreadsNothing refused.accepted 1 1 3 noMark)
+    -- a weak request that is settled before its first carry-out is replied to as weak
+    ∷ case (fieldsTold settledWeak execute) (spreadsNothing refused.accepted 0 1 3 weakMark)
+    -- settle, where several refusals are met, has the first: 2 before 9, 10 before 11; and 11
+    ∷ case (fieldsTold [] (commit (numbered 2 1))) (refusalAlone refused.badNumber)
+    ∷ case (fieldsTold settledWeak (commit (numbered 0 1))) (refusalAlone refused.weak)
+    ∷ case (fieldsTold (claiming ∷ commit (numbered 0 1) ∷ []) (commit (numbered 0 1))) (refusalAlone refused.settledAlready)
+    -- hear likewise: 2 before 4, 4 before 3, 3 before 21, 21 before 8; and 21 and 8
+    ∷ case (fieldsTold [] (deliver (weak 0 0 10 (read 0)))) (refusalAlone refused.badNumber)
+    ∷ case (fieldsTold [] (deliver (weak 0 1 10 (claim 0 0)))) (refusalAlone refused.ownEcho)
+    ∷ case (fieldsTold [] (deliver (strong 1 1 5 (claim 0 0) (join emptySet (numbered 1 1))))) (refusalAlone refused.badOperation)
+    ∷ case (fieldsTold [] namesItself) (refusalAlone refused.badContext)
+    ∷ case (fieldsTold (deliver (strong 1 1 5 (read 0) emptySet) ∷ []) namesItself) (refusalAlone refused.badContext)
+    ∷ case (fieldsTold (hear ∷ []) (deliver (weak 1 1 11 (setTo 63 8)))) (refusalAlone refused.numberClash)
     -- a refused fresh returns a one-panel shop, panel 0, which is used like any other: there is no panel 1 in it
     ∷ case (freshRefusal 9 0 ∷ answers (fresh 9 0) (make 7 (read 0) ∷ execute ∷ hear ∷ commit (numbered 0 1) ∷ []))
     (refused.badShop ∷ refused.accepted ∷ refused.accepted ∷ refused.badNumber ∷ refused.weak ∷ [])
@@ -139,8 +162,11 @@ shownCases =
     ∷ case (placeAt bothHeld 2) (refused.accepted ∷ 0 ∷ 1 ∷ 20 ∷ codeClaim ∷ 0 ∷ 0 ∷ 5 ∷ 1 ∷ 0 ∷ 1 ∷ replicate 6 0)
     ∷ case (placeAt bothHeld 0) (refused.notHere ∷ replicate 8 0 ++ replicate mostPanels 0)
     ∷ case (placeAt bothHeld 3) (refused.notHere ∷ replicate 8 0 ++ replicate mostPanels 0)
+    -- of the standing order, the settled and then the unsettled, whatever is carried out
+    ∷ case (placeAt (run (fresh 2 0) (overtakingCalls ++ commit (numbered 0 1) ∷ [])) 3)
+    (refused.accepted ∷ 1 ∷ 2 ∷ 1 ∷ codeAdd ∷ 0 ∷ 0 ∷ 3 ∷ 0 ∷ replicate mostPanels 0)
     ∷ case (placeAt (fresh 2 0) 1) (refused.notHere ∷ replicate 8 0 ++ replicate mostPanels 0)
     -- the counts of a fresh panel, and of one on which all five kinds of calls were accepted
     ∷ case (counts (fresh 2 0)) (0 ∷ 0 ∷ 0 ∷ 0 ∷ 0 ∷ [])
-    ∷ case (counts (run (fresh 2 0) (overtaken ++ commit (numbered 0 1) ∷ undo ∷ []))) (3 ∷ 1 ∷ 1 ∷ 2 ∷ 4 ∷ [])
+    ∷ case (counts (run (fresh 2 0) (overtakingCalls ++ commit (numbered 0 1) ∷ undo ∷ []))) (3 ∷ 1 ∷ 1 ∷ 2 ∷ 4 ∷ [])
     ∷ []
