@@ -41,23 +41,24 @@ edge-cases = refl
 
 -- each kind of answer, in every field
 pub answers-told : map (λ (c : Case). c .computed) answerCases ≡ map (λ (c : Case). c .said) answerCases
-unfolding answerCases fieldsTold answerFields requestFields answers freshRefusal sameNumber badNumber sameOperation badOperation sameAsked badAsked sameWords sameContext allZero
-    isEmpty namesFrom bit member join leave lackedWords difference subset lowestFrom lowest lowestLacking trailingZeros before sameRequest badContext
-    offBoard added claimed amountMoved moved exec response replayOn replay lastEvent lastClock entered without atLeast made committing
-    committingFound invokeRefusal deliverRefusal commitRefusal registers adjusted undone undoRefusal executedNext executeRefusal refusal
-    accepted responseOn responseIn executionMark executionReply undoReply acceptedAnswer settlementReply stableReplyDue namedByRefusal
-    answerOf acceptedAwaiting badShop fresh accept step run
+unfolding answerCases fieldsTold answerFields requestFields answers freshRefusal sameNumber badNumber sameOperation badOperation
+    sameAsked badAsked sameWords sameContext allZero isEmpty namesFrom bit member join leave lackedWords difference subset lowestFrom
+    lowest lowestLacking trailingZeros before sameRequest badContext offBoard added claimed amountMoved moved exec response replayOn
+    replay lastEvent lastClock entered without atLeast made committing committingFound invokeRefusal deliverRefusal commitRefusal
+    registers adjusted undone undoRefusal executedNext executeRefusal refusal accepted responseOn responseIn executionMark
+    executionReply undoReply acceptedAnswer settlementReply stableReplyDue namedByRefusal answerOf acceptedAwaiting badShop fresh accept
+    step run
 answers-told = refl
 
 -- what each showing call shows
 pub shown-told : map (λ (c : Case). c .computed) shownCases ≡ map (λ (c : Case). c .said) shownCases
-unfolding shownCases bothHeld registerAt placeAt counts requestFields driven sameNumber badNumber sameOperation badOperation sameAsked badAsked sameWords sameContext allZero
-    isEmpty namesFrom bit member join leave lackedWords difference subset lowestFrom lowest lowestLacking before sameRequest badContext
-    offBoard added claimed amountMoved moved exec response replayOn replay lastEvent lastClock entered without atLeast made committing
-    committingFound invokeRefusal deliverRefusal commitRefusal registers adjusted undone undoRefusal executedNext executeRefusal refusal
-    accepted responseOn responseIn executionMark executionReply undoReply acceptedAnswer settlementReply stableReplyDue namedByRefusal
-    answerOf acceptedAwaiting badShop fresh accept step run afterDueSteps registerRefusal
-    registerShown placeRefusal placeShown
+unfolding shownCases bothHeld registerAt placeAt counts requestFields driven sameNumber badNumber sameOperation badOperation sameAsked
+    badAsked sameWords sameContext allZero isEmpty namesFrom bit member join leave lackedWords difference subset lowestFrom lowest
+    lowestLacking before sameRequest badContext offBoard added claimed amountMoved moved exec response replayOn replay lastEvent
+    lastClock entered without atLeast made committing committingFound invokeRefusal deliverRefusal commitRefusal registers adjusted
+    undone undoRefusal executedNext executeRefusal refusal accepted responseOn responseIn executionMark executionReply undoReply
+    acceptedAnswer settlementReply stableReplyDue namedByRefusal answerOf acceptedAwaiting badShop fresh accept step run afterDueSteps
+    registerRefusal registerShown placeRefusal placeShown
 shown-told = refl
 
 -- each reading chosen is what is computed

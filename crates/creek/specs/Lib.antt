@@ -1,4 +1,4 @@
--- What is to be believed of the protocol, from lists to demand 3; then what else is claimed of it; then what only proofs cite, and examples.
+-- What is to be believed of the protocol, from lists to demand 3; what else is claimed of it; what only proofs cite; and examples.
 pub mod Plan
 pub mod Execution
 pub mod Book

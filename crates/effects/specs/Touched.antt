@@ -1,5 +1,5 @@
 -- The registers that an operation touches, as a list. That no other register changes is `exec-frame` in `proofs/RegisterLaws`; worked cases
--- are in `TouchedCases`, and what an operation does to these registers is in `Effect`.
+-- are in `examples/TouchedCases`, and what an operation does to these registers is in `Effect`.
 use Prim.Native.Nat.{ℕ, zero, suc}
 use mathlib.Core.Bool.{cond}
 use mathlib.Core.List.{List, [], _∷_}

@@ -1,2 +1,2 @@
--- What only the panel's memory and proofs cite.
+-- What only functions over slots, the panel's memory and proofs cite.
 pub mod Slots

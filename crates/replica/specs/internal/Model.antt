@@ -1,5 +1,4 @@
--- The state as a replica of `creek`: the map, and the invariant that fresh establishes and every call keeps. No answer depends on what they
--- say: fresh and every call are stated by the map, from the replica of a fresh panel on.
+-- The state as a replica of `creek`: the map, and the invariant that fresh establishes and every call keeps.
 use Prim.Native.Nat.{ℕ, _≤_, _<_}
 use mathlib.Core.Path.{_≡_}
 use mathlib.Core.Bool.{true}
