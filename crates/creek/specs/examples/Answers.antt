@@ -4,7 +4,7 @@ use Prim.Native.Nat.{ℕ}
 use mathlib.Core.List.{List, [], _∷_, _++_}
 use lib.ListN.{replicate}
 use Rattle.lists.specs.Lists.{one}
-use Rattle.numbers.specs.Numbers.{mostPanels, numbered}
+use Rattle.numbers.specs.Numbers.{mostPanels, mostEvents, numbered}
 use Rattle.sets.specs.Sets.{emptySet, join}
 use Rattle.request.specs.declared.Request.{Request}
 use Rattle.request.specs.Operations.{codeSet, codeAdd, codeClaim}
@@ -58,6 +58,10 @@ hear = deliver (weak 1 1 10 (setTo 63 8))
 abbrev pub claiming : Call
 claiming = makeStrong 20 (claim 0 5)
 
+-- 64 own requests are made
+abbrev pub shiftMade : List Call
+shiftMade = replicate mostEvents (make 7 (read 0))
+
 -- a strong request of panel 1 is heard whose context names 1/2, 0/9 and 0/8, none of which is known
 abbrev pub lackingContext : Call
 lackingContext = deliver (strong 1 4 30 (read 0) (join (join (join emptySet (numbered 1 2)) (numbered 0 9)) (numbered 0 8)))
@@ -84,8 +88,10 @@ answerCases =
     -- a strong one with its context, here {1/1}
     ∷ case (fieldsTold (hear ∷ []) claiming)
     (refused.accepted ∷ 0 ∷ 0 ∷ 0 ∷ noMark ∷ 0 ∷ 1 ∷ 20 ∷ codeClaim ∷ 0 ∷ 0 ∷ 5 ∷ 1 ∷ 0 ∷ 1 ∷ replicate 6 0)
-    -- refused
+    -- refused, 3 before 6 where both are met; and 6
     ∷ case (fieldsTold [] (make 7 (claim 0 0))) (refusalAlone refused.badOperation)
+    ∷ case (fieldsTold shiftMade (make 7 (claim 0 0))) (refusalAlone refused.badOperation)
+    ∷ case (fieldsTold shiftMade (make 7 (read 0))) (refusalAlone refused.shiftFull)
     -- hear: zeros; refused
     ∷ case (fieldsTold [] hear) (refusalAlone refused.accepted)
     ∷ case (fieldsTold (hear ∷ []) hear) (refusalAlone refused.heldAlready)
