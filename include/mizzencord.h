@@ -80,18 +80,14 @@ typedef struct {
     uint8_t event;
 } mizzencord_number;
 
-/* An operation on register r; under a move from r to q, under a claim of registers together on r to q, else q is 0. */
+/* What a request asks for: an operation on register r, under a move from r to q, under a claim of registers together on r to q, else q is 0;
+ * one that is not strong is weak. */
 typedef struct {
+    uint32_t amount;
     uint8_t code;
     uint8_t r;
     uint8_t q;
-    uint32_t amount;
-} mizzencord_operation;
-
-/* What a request asks for; one that is not strong is weak. */
-typedef struct {
     bool strong;
-    mizzencord_operation operation;
 } mizzencord_asked;
 
 /* What is handed over when a request is made: what it asks for, and the clock reading. */
@@ -100,79 +96,80 @@ typedef struct {
     uint32_t clock;
 } mizzencord_invocation;
 
-/* A request; word p of its context is panel p's, and bit e - 1 of it is event e's. */
+/* A request; word p of its context is panel p's, and bit e - 1 of it is event e's. The two bytes behind the number hold nothing. */
 typedef struct {
-    mizzencord_number number;
-    uint32_t clock;
-    mizzencord_asked asked;
     uint64_t context[MIZZENCORD_MOST_PANELS];
+    mizzencord_asked asked;
+    uint32_t clock;
+    mizzencord_number number;
 } mizzencord_request;
 
 /* What a call answers: every field is set, with zeros where there is nothing to say. */
 typedef struct {
-    uint8_t refusal;
     mizzencord_request request; /* the request to be spread, after mizzencord_invoke */
-    mizzencord_number number;   /* the request that was undone or executed; under MIZZENCORD_WAITS the missing one */
     uint32_t response;
+    mizzencord_number number; /* the request that was undone or executed; under MIZZENCORD_WAITS the missing one */
+    uint8_t refusal;
     uint8_t mark;
 } mizzencord_answer;
 
 /* A message: the request, or the settlement of its number, for which the other fields stand for nothing. */
 typedef struct {
-    bool settles;
     mizzencord_request request;
+    bool settles;
 } mizzencord_message;
 
-/* What stands at a place of a run of bytes: the refusal, the bytes taken and the message; at the end all is 0. */
+/* What stands at a place of a run of bytes: the message, the bytes taken and the refusal; at the end all is 0. */
 typedef struct {
-    uint8_t refusal;
-    size_t taken;
     mizzencord_message message;
+    uint64_t taken;
+    uint8_t refusal;
 } mizzencord_reading;
 
-/* What was written: the refusal, or the bytes of the message. */
+/* What was written: the bytes of the message, or the refusal. */
 typedef struct {
+    uint64_t bytes;
     uint8_t refusal;
-    size_t bytes;
 } mizzencord_written;
 
-/* What the message at a place led to: its bytes, 0 where none could be read, and the answer. */
+/* What the message at a place led to: the answer, and the message's bytes, 0 where none could be read. */
 typedef struct {
-    size_t taken;
     mizzencord_answer answer;
+    uint64_t taken;
 } mizzencord_receipt;
 
-/* A reply that fell due. */
+/* A reply that fell due; its refusal is 0. */
 typedef struct {
-    mizzencord_number number;
     uint32_t response;
+    mizzencord_number number;
     uint8_t mark;
+    uint8_t refusal;
 } mizzencord_reply;
 
 /* What all due steps were: how many undos and executions, and the replies, of which there are `count`, zeros behind them. */
 typedef struct {
     uint32_t undos;
     uint32_t executions;
-    size_t count;
+    uint64_t count;
     mizzencord_reply replies[MIZZENCORD_MOST_REPLIES];
 } mizzencord_due;
 
 /* A register's value, 0 where it is refused. */
 typedef struct {
-    uint8_t refusal;
     uint32_t value;
+    uint8_t refusal;
 } mizzencord_value;
 
 /* The request at a place, zeros where it is refused. */
 typedef struct {
-    uint8_t refusal;
     mizzencord_request request;
+    uint8_t refusal;
 } mizzencord_placed;
 
-/* What a list of calls led to: no room, or fresh's refusal; and how many calls were run. */
+/* What a list of calls led to: how many calls were run; and no room, or fresh's refusal. */
 typedef struct {
+    uint64_t ran;
     uint8_t refusal;
-    size_t ran;
 } mizzencord_ran;
 
 /* A panel: 47,608 bytes, aligned as a uint64_t. */
@@ -180,6 +177,30 @@ typedef struct {
 typedef struct {
     uint64_t memory[MIZZENCORD_PANEL_SIZE / 8];
 } mizzencord_panel;
+
+/* The sizes that the library was built with, checked where the language can: C11, C++11 and later. */
+#if defined(__cplusplus) && __cplusplus >= 201103L
+#define MIZZENCORD_SIZE(type, bytes) static_assert(sizeof(type) == (bytes), #type " has another size than in the library");
+#elif defined(__STDC_VERSION__) && __STDC_VERSION__ >= 201112L
+#define MIZZENCORD_SIZE(type, bytes) _Static_assert(sizeof(type) == (bytes), #type " has another size than in the library");
+#else
+#define MIZZENCORD_SIZE(type, bytes)
+#endif
+MIZZENCORD_SIZE(mizzencord_number, 2)
+MIZZENCORD_SIZE(mizzencord_asked, 8)
+MIZZENCORD_SIZE(mizzencord_invocation, 12)
+MIZZENCORD_SIZE(mizzencord_request, 80)
+MIZZENCORD_SIZE(mizzencord_answer, 88)
+MIZZENCORD_SIZE(mizzencord_message, 88)
+MIZZENCORD_SIZE(mizzencord_reading, 104)
+MIZZENCORD_SIZE(mizzencord_written, 16)
+MIZZENCORD_SIZE(mizzencord_receipt, 96)
+MIZZENCORD_SIZE(mizzencord_reply, 8)
+MIZZENCORD_SIZE(mizzencord_due, 528)
+MIZZENCORD_SIZE(mizzencord_value, 8)
+MIZZENCORD_SIZE(mizzencord_placed, 88)
+MIZZENCORD_SIZE(mizzencord_ran, 16)
+MIZZENCORD_SIZE(mizzencord_panel, MIZZENCORD_PANEL_SIZE)
 
 /* ---- the calls; each asks for a panel that mizzencord_fresh made */
 
