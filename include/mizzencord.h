@@ -83,11 +83,11 @@ typedef struct {
 /* What a request asks for: an operation on register r, under a move from r to q, under a claim of registers together on r to q, else q is 0;
  * one that is not strong is weak. */
 typedef struct {
-    uint32_t amount;
     uint8_t code;
     uint8_t r;
     uint8_t q;
     bool strong;
+    uint32_t amount;
 } mizzencord_asked;
 
 /* What is handed over when a request is made: what it asks for, and the clock reading. */

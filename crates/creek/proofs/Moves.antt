@@ -5,6 +5,7 @@ use mathlib.Core.List.{List, [], _∷_, _++_, map-append}
 use Rattle.request.specs.declared.Operation.{Operation}
 use Rattle.request.specs.declared.Request.{Request}
 use Rattle.request.specs.Refusal as refused
+use Rattle.request.specs.Asked.{operationOf}
 use Rattle.registers.specs.Replay.{replay}
 use Rattle.registers.specs.Moves.{goodMove, sum}
 use Rattle.registers.proofs.ReplayLaws.{replay-more, replay-length}
@@ -18,14 +19,14 @@ use Rattle.creek.proofs.CallLaws.{by-outcome}
 use Rattle.creek.proofs.StackLaws.{board-undone, board-execution}
 
 -- one good move more at the end of a replay
-sum-more : (l : List Request) (x : Request) → goodMove (x .asked .operation) ≡ true
+sum-more : (l : List Request) (x : Request) → goodMove (operationOf (x .asked)) ≡ true
     → sum (replay (operations (l ++ x ∷ []))) ≡ sum (replay (operations l))
 sum-more l x good =
     ap (λ (os : List Operation). sum (replay os)) (map-append _ l (x ∷ []))
-    ∙ ap sum (replay-more (operations l) (x .asked .operation))
-    ∙ sum-exec (x .asked .operation) (replay (operations l)) good (replay-length (operations l))
+    ∙ ap sum (replay-more (operations l) (operationOf (x .asked)))
+    ∙ sum-exec (operationOf (x .asked)) (replay (operations l)) good (replay-length (operations l))
 
-module _ (r : Replica) (x : Request) (rest : List Request) (good : goodMove (x .asked .operation) ≡ true) where
+module _ (r : Replica) (x : Request) (rest : List Request) (good : goodMove (operationOf (x .asked)) ≡ true) where
   sum-carried-out : r .book .execution .todo ≡ x ∷ rest → refusal (r .book) execute ≡ refused.accepted → sumOf (accept r execute) ≡ sumOf r
   unfolding accept accepted refusal registers
   sum-carried-out first taken =

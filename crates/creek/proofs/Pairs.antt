@@ -83,4 +83,4 @@ suppositions-needed = record {
   where
     amounts : List Request → ℕ
     amounts [] = 0
-    amounts (x ∷ xs) = x .asked .operation .amount
+    amounts (x ∷ xs) = x .asked .amount

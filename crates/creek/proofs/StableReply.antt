@@ -14,6 +14,7 @@ use Rattle.numbers.specs.Numbers.{noNumber, sameNumber}
 use Rattle.sets.specs.Sets.{member}
 use Rattle.request.specs.Request.{sameRequest}
 use Rattle.request.specs.Refusal as refused
+use Rattle.request.specs.Asked.{operationOf}
 use Rattle.lists.proofs.BoolLaws.{both-true}
 use Rattle.numbers.proofs.NumberLaws.{sameNumber-sound, sameNumber-self}
 use Rattle.registers.specs.Effect.{response}
@@ -148,15 +149,15 @@ module _ (r : Replica) (x : Request) (xs : List Request) (next : r .book .execut
 
   -- its response is its response in a replay of the executed list with it
   carried-out : (m : List Request)
-      → response (x .asked .operation) (registers (r .book .execution)) ≡ responseIn (x .number) (r .book .execution .executed ++ x ∷ m)
+      → response (operationOf (x .asked)) (registers (r .book .execution)) ≡ responseIn (x .number) (r .book .execution .executed ++ x ∷ m)
   unfolding refusal registers
   carried-out m =
       let empty = executes (r .book .execution) taken .nothing-back in
-      ap (λ (l : List Request). response (x .asked .operation) (replay (operations l))) (board-executed (r .book .execution) empty)
+      ap (λ (l : List Request). response (operationOf (x .asked)) (replay (operations l))) (board-executed (r .book .execution) empty)
       ∙ sym (response-behind x (r .book .execution .executed) m absent)
 
   execute-stands : executionMark (r .book .plan) (r .awaiting) x ≡ stableMark
-      → Stands (x .number) (response (x .asked .operation) (registers (r .book .execution))) (accept r execute .book)
+      → Stands (x .number) (response (operationOf (x .asked)) (registers (r .book .execution))) (accept r execute .book)
   unfolding executionMark accept accepted
   execute-stands mark =
       let there = passes-count (hasNumber (x .number)) (r .book .plan .committed)
@@ -235,12 +236,12 @@ module _ (n : Number) (v : ℕ) where
       (taken : refusal (r .book) execute ≡ refused.accepted) (sound : Sound r) (before : Recorded n v (r .book .execution)) where
     -- one more executed request
     pub executed-recorded : 1 ≤ count (hasNumber n) (r .book .execution .executed ++ x ∷ [])
-        → cond (sameNumber n (x .number)) (response (x .asked .operation) (registers (r .book .execution))) v
+        → cond (sameNumber n (x .number)) (response (operationOf (x .asked)) (registers (r .book .execution))) v
         ≡ responseIn n (r .book .execution .executed ++ x ∷ [])
     executed-recorded c = go (sameNumber n (x .number)) refl
       where
         go : (b : Bool) → sameNumber n (x .number) ≡ b
-            → cond b (response (x .asked .operation) (registers (r .book .execution))) v
+            → cond b (response (operationOf (x .asked)) (registers (r .book .execution))) v
             ≡ responseIn n (r .book .execution .executed ++ x ∷ [])
         go true e =
             carried-out r x xs next taken sound []

@@ -11,6 +11,7 @@ use Rattle.request.specs.declared.Operation.{Operation}
 use Rattle.request.specs.declared.Request.{Request}
 use Rattle.request.specs.Request.{sameRequest}
 use Rattle.request.specs.Refusal as refused
+use Rattle.request.specs.Asked.{operationOf}
 use Rattle.registers.specs.Replay.{replay}
 use Rattle.lists.specs.Lists.{isNil, commonStart}
 use Rattle.creek.specs.Plan.{met}
@@ -31,7 +32,7 @@ abbrev pub board : Execution → List Request
 board e = e .executed ++ reverse (e .rollback)
 
 abbrev pub operations : List Request → List Operation
-operations l = map (λ x. x .asked .operation) l
+operations l = map (λ x. operationOf (x .asked)) l
 
 -- the registers are one replay of the requests on the board
 unfoldable pub registers : Execution → List ℕ

@@ -6,6 +6,7 @@ use mathlib.Core.Path.{_≡_}
 use mathlib.Core.Bool.{true}
 use mathlib.Core.List.{List, _∷_}
 use Rattle.request.specs.declared.Request.{Request}
+use Rattle.request.specs.Asked.{operationOf}
 use Rattle.registers.specs.Moves.{goodMove, sum}
 use Rattle.creek.specs.Execution.{registers}
 use Rattle.creek.specs.Book.{undo, execute}
@@ -17,7 +18,7 @@ sumOf r = sum (registers (r .book .execution))
 
 -- where the first of the to-do list or of the undo list is a good move, its step leaves the sum as it was; a refused one changes nothing
 pub record MovesKeepSum (r : Replica) : Type 0 where
-  pub carried-out : (x : Request) (rest : List Request) → r .book .execution .todo ≡ x ∷ rest → goodMove (x .asked .operation) ≡ true
+  pub carried-out : (x : Request) (rest : List Request) → r .book .execution .todo ≡ x ∷ rest → goodMove (operationOf (x .asked)) ≡ true
       → sumOf (step r execute) ≡ sumOf r
-  pub undone : (x : Request) (rest : List Request) → r .book .execution .rollback ≡ x ∷ rest → goodMove (x .asked .operation) ≡ true
+  pub undone : (x : Request) (rest : List Request) → r .book .execution .rollback ≡ x ∷ rest → goodMove (operationOf (x .asked)) ≡ true
       → sumOf (step r undo) ≡ sumOf r

@@ -11,6 +11,7 @@ use Rattle.numbers.specs.Numbers.{noNumber}
 use Rattle.sets.specs.Sets.{member, join, leave, lowestLacking}
 use Rattle.request.specs.Refusal as refused
 use Rattle.request.specs.Request.{noRequest}
+use Rattle.request.specs.Asked.{operationOf}
 use Rattle.registers.specs.Effect.{exec, response}
 use Rattle.registers.specs.Replay.{zeroBoard}
 use Rattle.creek.specs.declared.Answer.{Answer}
@@ -55,7 +56,7 @@ refusedWith k n = record { refusal = k; request = noRequest; number = n; respons
 -- the response of the request of that number when those requests are executed in turn on registers b, 0 where it is not among them
 unfoldable pub responseOn : List ℕ → Number → List Request → ℕ
 responseOn b n [] = 0
-responseOn b n (x ∷ xs) = cond (hasNumber n x) (response (x .asked .operation) b) (responseOn (exec (x .asked .operation) b) n xs)
+responseOn b n (x ∷ xs) = cond (hasNumber n x) (response (operationOf (x .asked)) b) (responseOn (exec (operationOf (x .asked)) b) n xs)
 
 -- its response in one replay of those requests
 unfoldable pub responseIn : Number → List Request → ℕ
@@ -76,7 +77,7 @@ executionMark a awaiting x = markOf (member awaiting (x .number)) (x .asked .str
 unfoldable pub executionReply : Book → Context → List Request → Answer
 executionReply b awaiting [] = done
 executionReply b awaiting (x ∷ xs) =
-    reply (x .number) (response (x .asked .operation) (registers (b .execution))) (executionMark (b .plan) awaiting x)
+    reply (x .number) (response (operationOf (x .asked)) (registers (b .execution))) (executionMark (b .plan) awaiting x)
 
 -- ---- settle [55 to 57]
 

@@ -20,9 +20,9 @@ pub struct Invocation {
 // What a call answers: every field for every call, zeros where it has nothing to say.
 #[repr(C)]
 pub struct Answer {
-    pub refusal: u8,
     pub request: Request,
-    pub number: Number,
     pub response: u32,
+    pub number: Number,
+    pub refusal: u8,
     pub mark: u8,
 }

@@ -2,6 +2,7 @@
 use creek::mark::NOBODY;
 use numbers::Number;
 use replica::Core;
+use request::asks;
 use steps::DueReply;
 ghost use mathlib.Core.Path.{_≡_};
 ghost use Rattle.steps.specs.Steps.{UndoAsks, ExecuteAsks};
@@ -102,7 +103,7 @@ fn execute_all<'a>(
     while at < ordered {
         let slot = order[at];
         let asked = store::asked_at(operations, slot as usize);
-        let operation = asked.operation;
+        let operation = asks::operation(asked);
         let before = registers::save(registers, operation);
         let word = registers::saved_word(before);
         let response = registers::execute(registers, operation);

@@ -10,6 +10,7 @@ use Rattle.lists.proofs.AllLaws.{all-take}
 use Rattle.request.specs.declared.Operation.{Operation}
 use Rattle.request.specs.declared.Request.{Request}
 use Rattle.request.specs.Operations.{lastRegister}
+use Rattle.request.specs.Asked.{operationOf}
 use Rattle.effects.proofs.RegisterLaws.{exec-in-range}
 use Rattle.registers.specs.declared.Saved.{Saved}
 use Rattle.registers.specs.Effect.{range, offBoard, exec}
@@ -34,7 +35,7 @@ replayed-in-range : (b : List ℕ) (l : List Request) → InRange b → All Requ
 unfolding replayOn
 replayed-in-range b [] small fit = small
 replayed-in-range b (x ∷ xs) small fit =
-    replayed-in-range (exec (x .asked .operation) b) xs (exec-in-range (x .asked .operation) b (fit .0 .amount) small) (fit .1)
+    replayed-in-range (exec (operationOf (x .asked)) b) xs (exec-in-range (operationOf (x .asked)) b (fit .0 .amount) small) (fit .1)
 
 replay-in-range : (l : List Request) → All RequestFits l → InRange (replay (operations l))
 unfolding replay

@@ -41,7 +41,7 @@ use Rattle.existence.proofs.MemoryLaws.{Storable}
 -- ---- requests
 
 -- a request that is made has a word for each panel in its context
-made-fits : (a : Plan) → SoundPlan a → (i : Invocation) → i .asked .operation .amount < range → RequestFits (made a i)
+made-fits : (a : Plan) → SoundPlan a → (i : Invocation) → i .asked .amount < range → RequestFits (made a i)
 unfolding made atLeast
 made-fits a sound i amount = record {
   words =

@@ -12,7 +12,7 @@ use Rattle.numbers.specs.Numbers.{mostPanels}
 use Rattle.request.specs.declared.Operation.{Operation}
 use Rattle.request.specs.declared.Asked.{Asked}
 use Rattle.request.specs.declared.Request.{Request}
-use Rattle.request.specs.Asked.{badAsked}
+use Rattle.request.specs.Asked.{operationOf, badAsked}
 use Rattle.request.specs.Operations.{badOperation, lastCode, lastRegister}
 use Rattle.registers.specs.Effect.{range}
 use Rattle.store.proofs.WordLaws.{Narrow}
@@ -20,7 +20,7 @@ use Rattle.existence.specs.Existence.{RequestFits}
 
 -- x is wider than the code's types
 unfoldable pub isWide : Request → Bool
-isWide x = not (eqb (length (x .context .words)) mostPanels && ltb (x .asked .operation .amount) range)
+isWide x = not (eqb (length (x .context .words)) mostPanels && ltb (x .asked .amount) range)
 
 pub fits : (x : Request) → isWide x ≡ false → RequestFits x
 unfolding isWide
@@ -50,10 +50,10 @@ module _ (o : Operation) (good : badOperation o ≡ false) where
   small-q true e = true-not-false refl (rw (e, or-true) at good)
   small-q false e = ltb-false lastRegister (o .q) e
 
-pub narrow : (a : Asked) → badAsked a ≡ false → a .operation .amount < range → Narrow a
+pub narrow : (a : Asked) → badAsked a ≡ false → a .amount < range → Narrow a
 unfolding badAsked
 narrow a good amount =
-    let o = a .operation in
+    let o = operationOf a in
     record {
       code = omega (arith, small-code o good _ refl);
       r = omega (arith, small-r o good _ refl);

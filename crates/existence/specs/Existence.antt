@@ -22,11 +22,11 @@ use Rattle.history.specs.Worthless.{InventsCounters, LeavesDue, RepliesDueAlway
 -- a request with a word for each panel in its context and an amount in the range of a register
 pub record RequestFits (x : Request) : Type 0 where
   pub words : length (x .context .words) ≡ mostPanels
-  pub amount : x .asked .operation .amount < range
+  pub amount : x .asked .amount < range
 
 -- no other width matters: `creek` refuses a bad number or operation, and a memory holds any clock reading and any word of a context
 abbrev pub CallFits : Call → Type 0
-CallFits (invoke i) = i .asked .operation .amount < range
+CallFits (invoke i) = i .asked .amount < range
 CallFits (deliver x) = RequestFits x
 CallFits (commit n) = Unit {0}
 CallFits undo = Unit {0}

@@ -16,8 +16,8 @@ ghost use Rattle.intake.specs.internal.Parts.{TakeAsks, Taken, nothing, 
 // What the message at a place led to: its bytes, 0 where none could be read, and the answer.
 #[repr(C)]
 pub struct Receipt {
-    pub taken: usize,
     pub answer: Answer,
+    pub taken: usize,
 }
 
 // What receive returns: the core after it and what the message led to.

@@ -15,24 +15,24 @@ ghost use Rattle.mizzencord.specs.Messages.{settlesBy, subjectBy, heldFo
 // What a list of calls led to: refusal 20 without room for the answers, else fresh's; and how many calls were run.
 #[repr(C)]
 pub struct ListResult {
-    pub refusal: u8,
     pub ran: usize,
+    pub refusal: u8,
 }
 
 // A message as C holds it: the request, or the settlement of its number, for which the other fields stand for nothing. An enum does not
 // cross to C.
 #[repr(C)]
 pub struct Message {
-    pub settles: bool,
     pub request: Request,
+    pub settles: bool,
 }
 
 // What stands at a place: the refusal, the bytes taken and the message, zeros where there is none.
 #[repr(C)]
 pub struct MessageRead {
-    pub refusal: u8,
-    pub taken: usize,
     pub message: Message,
+    pub taken: usize,
+    pub refusal: u8,
 }
 
 // Puts the printout of the input at the front of `out` and returns its bytes; an `out` of under 438,473 bytes is left alone, and 0 is

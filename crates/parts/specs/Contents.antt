@@ -20,7 +20,7 @@ numberFields n = n .panel .0 ∷ n .event .0 ∷ []
 -- clock, code, r, q, spare, amount
 abbrev pub bodyFields : Request → List ℕ
 bodyFields r =
-    r .clock .0 ∷ r .asked .operation .code ∷ r .asked .operation .r ∷ r .asked .operation .q ∷ spareByte ∷ r .asked .operation .amount ∷ []
+    r .clock .0 ∷ r .asked .code ∷ r .asked .r ∷ r .asked .q ∷ spareByte ∷ r .asked .amount ∷ []
 
 -- the number
 abbrev pub numberFrom : List ℕ → Number
@@ -33,13 +33,11 @@ requestFrom f strong context =
       number = numberFrom f;
       clock = record { 0 = getD f clockField 0 };
       asked = record {
-        operation = record {
-          code = getD f codeField 0;
-          r = getD f rField 0;
-          q = getD f qField 0;
-          amount = getD f amountField 0;
-        };
+        code = getD f codeField 0;
+        r = getD f rField 0;
+        q = getD f qField 0;
         strong = strong;
+        amount = getD f amountField 0;
       };
       context = context;
     }

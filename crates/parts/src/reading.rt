@@ -6,7 +6,6 @@ use numbers::EventNo;
 use numbers::Number;
 use numbers::PanelNo;
 use request::Asked;
-use request::Operation;
 use request::Request;
 use sets::Context;
 ghost use mathlib.Core.Path.{_≡_};
@@ -41,13 +40,11 @@ pub fn request_at(s: &[u8], at: usize, strong: bool, context: Context) -> Reques
         number: number_at(s, at),
         clock: Clock(clock),
         asked: Asked {
-            operation: Operation {
-                code: code,
-                r: r,
-                q: q,
-                amount: amount,
-            },
+            code: code,
+            r: r,
+            q: q,
             strong: strong,
+            amount: amount,
         },
         context: context,
     }

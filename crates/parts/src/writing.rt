@@ -28,12 +28,12 @@ pub fn put_body(out: &mut [u8], r: Request)
     requires { ⌜ size weakWidths ≤ length (now out) ⌝ }
     ensures { λ _. ⌜ now (out .exit) ≡ put (now (out .entry)) (size settlementWidths) (encode bodyWidths (bodyFields r)) ⌝ }
 {
-    let o = r.asked.operation;
+    let asked = r.asked;
     let clock = r.clock.0 as u64;
-    let code = o.code as u64;
-    let first = o.r as u64;
-    let second = o.q as u64;
-    let amount = o.amount as u64;
+    let code = asked.code as u64;
+    let first = asked.r as u64;
+    let second = asked.q as u64;
+    let amount = asked.amount as u64;
     integers::put_integer(out, places::CLOCK_AT, places::CLOCK_WIDTH, clock);
     integers::put_integer(out, places::CODE_AT, places::BYTE, code);
     integers::put_integer(out, places::R_AT, places::BYTE, first);

@@ -94,7 +94,7 @@ answer-byte r m = rw answer-refusal (call-byte (r .book) m)
 
 -- what a request adds or sets is a register's value
 abbrev pub NarrowAmount : BusMessage → Type 0
-NarrowAmount (request x) = x .asked .operation .amount < range
+NarrowAmount (request x) = x .asked .amount < range
 NarrowAmount (settlement n) = Unit {0}
 
 pub record NarrowMessage (m : BusMessage) : Type 0 where

@@ -16,6 +16,7 @@ use Rattle.lists.proofs.ListLaws.{count-all, one-zero}
 use Rattle.request.specs.declared.Request.{Request}
 use Rattle.request.specs.Operations.{lastRegister}
 use Rattle.request.specs.Refusal as refusedBy
+use Rattle.request.specs.Asked.{operationOf}
 use Rattle.effects.proofs.RegisterLaws.{exec-in-range}
 use Rattle.registers.specs.Effect.{range, exec}
 use Rattle.registers.specs.Replay.{zeroBoard, replayOn, replay}
@@ -53,7 +54,7 @@ use Rattle.printed.proofs.NarrowLaws.{answer-byte, NarrowMessage, Narro
 
 -- x's amount is no register's value
 abbrev tooWide : Request → Bool
-tooWide x = not (ltb (x .asked .operation .amount) range)
+tooWide x = not (ltb (x .asked .amount) range)
 
 -- r is sound, and no request that it holds has such an amount
 record Bounded (r : Replica) : Type 0 where
@@ -64,7 +65,7 @@ accept-narrow : (r : Replica) (m : BusMessage) → refusal (r .book) (callOf m) 
     → count tooWide (order (accept r (callOf m) .book .plan)) ≡ 0
 unfolding callOf accept accepted refusal
 accept-narrow r (request x) taken narrow i =
-    let fits : one (tooWide x) ≡ 0 = rw (lt-ltb (x .asked .operation .amount) range (narrow .amount)) in
+    let fits : one (tooWide x) ≡ 0 = rw (lt-ltb (x .asked .amount) range (narrow .amount)) in
     omega (arith, entered-count (r .book .plan) x tooWide, i .narrow)
 accept-narrow r (settlement n) taken narrow i =
     let c = commits (r .book .plan) n taken in
@@ -108,8 +109,8 @@ replay-in-range : (b : List ℕ) (l : List Request) → InRange b → count tooW
 unfolding replayOn
 replay-in-range b [] low none = low
 replay-in-range b (x ∷ xs) low none =
-    let fits = ltb-true (x .asked .operation .amount) range (not-false _ (one-zero (tooWide x) (omega arith))) in
-    replay-in-range (exec (x .asked .operation) b) xs (exec-in-range (x .asked .operation) b fits low) (omega arith)
+    let fits = ltb-true (x .asked .amount) range (not-false _ (one-zero (tooWide x) (omega arith))) in
+    replay-in-range (exec (operationOf (x .asked)) b) xs (exec-in-range (operationOf (x .asked)) b fits low) (omega arith)
 
 zeros-in-range : (n : ℕ) → InRange (replicate n 0)
 zeros-in-range zero k = lit< tt

@@ -69,15 +69,15 @@ pub struct CallResult {
 // A register's value, or refusal 3.
 #[repr(C)]
 pub struct RegisterValue {
-    pub refusal: u8,
     pub value: u32,
+    pub refusal: u8,
 }
 
 // The request at a place of the standing order, or refusal 9.
 #[repr(C)]
 pub struct PlacedRequest {
-    pub refusal: u8,
     pub request: Request,
+    pub refusal: u8,
 }
 
 // Makes the lent arrays those of a panel with empty lists and a zero board; a refused one is a one-panel shop, panel 0.

@@ -10,7 +10,7 @@ use Rattle.sets.specs.declared.Context.{Context}
 use Rattle.request.specs.declared.Asked.{Asked}
 use Rattle.request.specs.declared.Request.{Request}
 use Rattle.request.specs.Operations.{sameOperation}
-use Rattle.request.specs.Asked.{sameAsked}
+use Rattle.request.specs.Asked.{operationOf, sameAsked}
 use Rattle.sets.specs.Sets.{sameContext}
 use Rattle.request.specs.Request.{sameRequest}
 use Rattle.lists.proofs.BoolLaws.{both-true, both, beq-sound, beq-self}
@@ -40,13 +40,13 @@ pub sameAsked-sound : (a b : Asked) → sameAsked a b ≡ true → a ≡ b
 unfolding sameAsked
 sameAsked-sound a b e =
     let h = both-true _ _ e in
-    let operation = sameOperation-sound (a .operation) (b .operation) (h .0) in
+    let same = sameOperation-sound (operationOf a) (operationOf b) (h .0) in
     let strong = beq-sound (a .strong) (b .strong) (h .1) in
-    λ i. record { operation = operation i; strong = strong i }
+    λ i. record { code = same i .code; r = same i .r; q = same i .q; strong = strong i; amount = same i .amount }
 
 pub sameAsked-self : (a : Asked) → sameAsked a a ≡ true
 unfolding sameAsked
-sameAsked-self a = both (sameOperation-self (a .operation)) (beq-self (a .strong))
+sameAsked-self a = both (sameOperation-self (operationOf a)) (beq-self (a .strong))
 
 pub sameContext-sound : (a b : Context) → sameContext a b ≡ true → a ≡ b
 unfolding sameContext

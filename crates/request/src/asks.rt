@@ -1,16 +1,32 @@
-// What a request asks for, as one thing: zeros, equality, and the test behind refusal 3.
+// What a request asks for, as one thing: its operation, zeros, equality, and the test behind refusal 3.
 use super::Asked;
+use super::Operation;
 use super::operations;
 ghost use mathlib.Core.Path.{_≡_};
-ghost use Rattle.request.specs.Asked.{nothingAsked, sameAsked, badAsked};
+ghost use Rattle.request.specs.Asked.{operationOf, nothingAsked, sameAsked, badAsked};
+
+// The operation that is asked for.
+pub fn operation(a: Asked) -> Operation
+    ensures { λ o. ⌜ o ≡ operationOf a ⌝ }
+{
+    Operation {
+        code: a.code,
+        r: a.r,
+        q: a.q,
+        amount: a.amount,
+    }
+}
 
 // Zeros, where nothing is asked for.
 pub fn none() -> Asked
     ensures { λ a. ⌜ a ≡ nothingAsked ⌝ }
 {
     Asked {
-        operation: operations::none(),
+        code: 0,
+        r: 0,
+        q: 0,
         strong: false,
+        amount: 0,
     }
 }
 
@@ -18,7 +34,7 @@ pub fn none() -> Asked
 pub fn same(a: Asked, b: Asked) -> bool
     ensures { λ r. ⌜ r ≡ sameAsked a b ⌝ }
 {
-    let operations = operations::same(a.operation, b.operation);
+    let operations = operations::same(operation(a), operation(b));
     operations & (a.strong == b.strong)
 }
 
@@ -26,5 +42,5 @@ pub fn same(a: Asked, b: Asked) -> bool
 pub fn bad(a: Asked) -> bool
     ensures { λ r. ⌜ r ≡ badAsked a ⌝ }
 {
-    operations::bad(a.operation)
+    operations::bad(operation(a))
 }

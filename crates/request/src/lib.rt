@@ -16,7 +16,6 @@ ghost use mathlib.Core.Path.{_≡_};
 ghost use Rattle.request.specs.Request.{bareRequest, noRequest, sameRequest, badContext};
 
 // An operation on register r; under a move, from register r to register q; under a claim of registers together, on r to q.
-#[repr(C)]
 pub struct Operation {
     pub code: u8,
     pub r: u8,
@@ -24,20 +23,23 @@ pub struct Operation {
     pub amount: u32,
 }
 
-// What a request asks for: an operation, strong or weak.
+// What a request asks for: the fields of an operation, and whether it is strong, in the order in which a bus message has them.
 #[repr(C)]
 pub struct Asked {
+    pub code: u8,
+    pub r: u8,
+    pub q: u8,
     pub strong: bool,
-    pub operation: Operation,
+    pub amount: u32,
 }
 
-// A request.
+// A request; its fields stand so that there is no gap between them.
 #[repr(C)]
 pub struct Request {
-    pub number: Number,
-    pub clock: Clock,
-    pub asked: Asked,
     pub context: Context,
+    pub asked: Asked,
+    pub clock: Clock,
+    pub number: Number,
 }
 
 // The request of zeros, which stands where there is none.

@@ -11,6 +11,7 @@ use Rattle.request.specs.declared.Request.{Request}
 use Rattle.request.specs.Request.{sameRequest}
 use Rattle.numbers.proofs.NumberLaws.{sameNumber-self}
 use Rattle.request.proofs.EqualityLaws.{sameRequest-sound}
+use Rattle.request.specs.Asked.{operationOf}
 use Rattle.registers.specs.Effect.{response}
 use Rattle.registers.specs.Replay.{replay}
 use Rattle.lists.specs.Lists.{count, somePasses, keep, commonStart}
@@ -37,10 +38,10 @@ use Rattle.settling.proofs.SettlingPlanLaws.{committed-then, tentative-
 -- ---- a request in the middle of a board
 
 module _ (front : List Request) (x : Request) (rest : List Request) (k : ℕ) (place : length front ≡ k) where
-  operation-there : operationAt (front ++ x ∷ rest) k ≡ x .asked .operation
+  operation-there : operationAt (front ++ x ∷ rest) k ≡ operationOf (x .asked)
   operation-there =
-      rw (map-append (λ y. y .asked .operation) front (x ∷ rest))
-      (getD-at (operations front) (x .asked .operation) (operations rest) _ k (length-map front (λ y. y .asked .operation) ∙ place))
+      rw (map-append (λ y. operationOf (y .asked)) front (x ∷ rest))
+      (getD-at (operations front) (operationOf (x .asked)) (operations rest) _ k (length-map front (λ y. operationOf (y .asked)) ∙ place))
 
   registers-there : registersBefore (front ++ x ∷ rest) k ≡ replay (operations front)
   registers-there = ap (λ (l : List Request). replay (operations l)) (take-at front (x ∷ rest) k place)

@@ -19,6 +19,7 @@ use Rattle.request.specs.declared.Request.{Request}
 use Rattle.numbers.specs.internal.Slots.{numberOf}
 use Rattle.sets.specs.Sets.{setOf, member}
 use Rattle.request.specs.Refusal as refused
+use Rattle.request.specs.Asked.{operationOf}
 use Rattle.numbers.proofs.NumberLaws.{sameNumber-self}
 use Rattle.registers.specs.Effect.{response, Executed}
 use Rattle.registers.specs.Rollback.{savedOf, savedIn}
@@ -49,7 +50,7 @@ abbrev pub nextAsked : State → Asked
 nextAsked p = askedIn (getD (p .operations) (nextSlot p) 0)
 
 abbrev pub nextOperation : State → Operation
-nextOperation p = nextAsked p .operation
+nextOperation p = operationOf (nextAsked p)
 
 abbrev pub nextStrong : State → Bool
 nextStrong p = nextAsked p .strong

@@ -9,7 +9,9 @@ use Rattle.counters.specs.Counted.{undosCounted, executionsCounted}
 use Rattle.numbers.specs.Numbers.{noNumber}
 use Rattle.numbers.specs.internal.Slots.{numberOf}
 use Rattle.request.specs.declared.Asked.{Asked}
+use Rattle.request.specs.declared.Operation.{Operation}
 use Rattle.request.specs.Refusal as refused
+use Rattle.request.specs.Asked.{operationOf}
 use Rattle.registers.specs.declared.Saved.{Saved}
 use Rattle.registers.specs.Effect.{Executed}
 use Rattle.registers.specs.Rollback.{savedOf, savedIn, SavedAs}
@@ -89,25 +91,27 @@ askedNext operations order at = askedIn (getD operations (getD order at 0) 0)
 pub record Next (committed : ℕ) (awaiting operations order stack registers saved responses : List ℕ) (at : ℕ)
     (awaiting′ stack′ registers′ saved′ responses′ : List ℕ) (r : DueReply) : Type 0 where
   pub word : ℕ
-  pub restores : savedIn word ≡ savedOf (askedNext operations order at .operation) registers
-  pub done : Executed (askedNext operations order at .operation) registers registers′ (r .response)
+  pub restores : savedIn word ≡ savedOf (operationOf (askedNext operations order at)) registers
+  pub done : Executed (operationOf (askedNext operations order at)) registers registers′ (r .response)
   pub put : PutOn committed awaiting stack saved responses at (getD order at 0) (askedNext operations order at .strong) word (r .response)
       awaiting′ stack′ saved′ responses′ r
 
 -- from one equation for each value that is computed
 pub next-by : {committed at : ℕ} {awaiting operations order stack registers saved responses awaiting′ stack′ registers′ saved′ responses′ : List ℕ}
-    {a : Asked} {s : Saved} {word v : ℕ} {r : DueReply}
-    → a ≡ askedNext operations order at → s ≡ savedOf (a .operation) registers → SavedAs s word
-    → Executed (a .operation) registers registers′ v
+    {a : Asked} {o : Operation} {s : Saved} {word v : ℕ} {r : DueReply}
+    → a ≡ askedNext operations order at → o ≡ operationOf a → s ≡ savedOf o registers → SavedAs s word
+    → Executed o registers registers′ v
     → PutOn committed awaiting stack saved responses at (getD order at 0) (a .strong) word v awaiting′ stack′ saved′ responses′ r
     → Next committed awaiting operations order stack registers saved responses at awaiting′ stack′ registers′ saved′ responses′ r
 next-by {committed} {at} {awaiting} {operations} {order} {stack} {registers} {saved} {responses} {awaiting′} {stack′} {registers′} {saved′}
-    {responses′} {word = word} {v} {r} a-is s-is kept done put = record {
+    {responses′} {word = word} {v} {r} a-is o-is s-is kept done put =
+    let operation = o-is ∙ ap operationOf a-is in
+    record {
       word = word;
-      restores = kept .read ∙ s-is ∙ ap (λ (a : Asked). savedOf (a .operation) registers) a-is;
+      restores = kept .read ∙ s-is ∙ ap (λ (o : Operation). savedOf o registers) operation;
       done =
-          subst (λ (w : ℕ). Executed (askedNext operations order at .operation) registers registers′ w) (sym (put .its-response))
-          (subst (λ (a : Asked). Executed (a .operation) registers registers′ v) a-is done);
+          subst (λ (w : ℕ). Executed (operationOf (askedNext operations order at)) registers registers′ w) (sym (put .its-response))
+          (subst (λ (o : Operation). Executed o registers registers′ v) operation done);
       put =
           subst (λ (w : ℕ). PutOn committed awaiting stack saved responses at (getD order at 0) (askedNext operations order at .strong)
           word w awaiting′ stack′ saved′ responses′ r) (sym (put .its-response))

@@ -20,6 +20,7 @@ use Rattle.steps.specs.declared.StepResult.{StepResult}
 use Rattle.replica.specs.State.{State, packed}
 use Rattle.replica.specs.Promises.{Kept}
 use Rattle.replica.specs.internal.Model.{Inv}
+use Rattle.request.specs.Asked.{operationOf}
 
 -- ---- undo
 
@@ -50,7 +51,7 @@ pub record TopAsks (stack : List ℕ) (top : ℕ) : Type 0 where
 -- the request at the place `top` on the board, of that slot, was rolled back from what was saved there
 pub record TakenOff (operations stack registers saved : List ℕ) (top : ℕ) (registers′ : List ℕ) (s : ℕ) : Type 0 where
   pub slot : s ≡ getD stack top 0
-  pub rolled-back : registers′ ≡ restored (askedIn (getD operations (getD stack top 0) 0) .operation) (savedIn (getD saved top 0)) registers
+  pub rolled-back : registers′ ≡ restored (operationOf (askedIn (getD operations (getD stack top 0) 0))) (savedIn (getD saved top 0)) registers
 
 -- ---- execute
 

@@ -9,6 +9,7 @@ use creek::mark::TENTATIVE;
 use creek::mark::WEAK;
 use numbers::Number;
 use replica::Core;
+use request::asks;
 use request::refusal;
 ghost use mathlib.Core.Path.{_≡_};
 ghost use Prim.Native.Nat.{_<_};
@@ -78,7 +79,7 @@ pub fn take_off<'a>(
     let slot = stack[top];
     let word = saved[top];
     let asked = store::asked_at(operations, slot as usize);
-    let operation = asked.operation;
+    let operation = asks::operation(asked);
     registers::rollback(registers, operation, registers::saved_in(word));
     slot
 }
@@ -118,7 +119,7 @@ pub fn execute<'a>(
     }
     let slot = order[at];
     let asked = store::asked_at(operations, slot as usize);
-    let operation = asked.operation;
+    let operation = asks::operation(asked);
     let before = registers::save(registers, operation);
     let word = registers::saved_word(before);
     let response = registers::execute(registers, operation);

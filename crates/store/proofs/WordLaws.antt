@@ -8,14 +8,15 @@ use lib.Dec.{eqb}
 use Rattle.lists.specs.Lists.{one}
 use Rattle.lists.proofs.ListLaws.{one-most}
 use Rattle.request.specs.declared.Asked.{Asked}
+use Rattle.request.specs.Asked.{operationOf}
 use Rattle.store.specs.Requests.{byte, unitR, unitQ, unitStrength, unitAmount, askedIn, wordOf}
 
 -- the fields are no wider than in the word
 pub record Narrow (a : Asked) : Type 0 where
-  pub code : a .operation .code < byte
-  pub r : a .operation .r < byte
-  pub q : a .operation .q < byte
-  pub amount : a .operation .amount < unitAmount
+  pub code : a .code < byte
+  pub r : a .r < byte
+  pub q : a .q < byte
+  pub amount : a .amount < unitAmount
 
 -- the lowest eight bits of a number, where d stands there
 lowest-byte : {w : ℕ} (above : ℕ) {d : ℕ} → w ≡ above * byte + d → d < byte → w % byte ≡ d
@@ -29,7 +30,7 @@ module _ (a : Asked) (narrow : Narrow a) where
   pub asked-read : askedIn (wordOf a) ≡ a
   unfolding askedIn wordOf
   asked-read =
-      let o = a .operation in
+      let o = operationOf a in
       let w = wordOf a in
       let bit = one-most (a .strong) in
       let above-q : ℕ = o .amount * byte + one (a .strong) in
@@ -43,7 +44,7 @@ module _ (a : Asked) (narrow : Narrow a) where
       let q : w / unitQ % byte ≡ o .q = lowest-byte above-q from-q (narrow .q) in
       let amount : w / unitAmount ≡ o .amount = omega arith in
       let strong : eqb (w / unitStrength % 2) 1 ≡ a .strong = ap (λ (k : ℕ). eqb k 1) strength-bit ∙ one-is (a .strong) in
-      λ i. record { operation = record { code = code i; r = r i; q = q i; amount = amount i }; strong = strong i }
+      λ i. record { code = code i; r = r i; q = q i; strong = strong i; amount = amount i }
     where
       one-is : (b : Bool) → eqb (one b) 1 ≡ b
       one-is true = refl

@@ -36,15 +36,17 @@ unitAmount = 2 ^ 32
 -- what a word says is asked for
 unfoldable pub askedIn : ℕ → Asked
 askedIn w = record {
-  operation = record { code = w % byte; r = w / unitR % byte; q = w / unitQ % byte; amount = w / unitAmount };
+  code = w % byte;
+  r = w / unitR % byte;
+  q = w / unitQ % byte;
   strong = eqb (w / unitStrength % 2) 1;
+  amount = w / unitAmount;
 }
 
 -- the word of what is asked for
 unfoldable pub wordOf : Asked → ℕ
 wordOf a =
-    let o = a .operation in
-    o .code + unitR * o .r + unitQ * o .q + unitStrength * one (a .strong) + unitAmount * o .amount
+    a .code + unitR * a .r + unitQ * a .q + unitStrength * one (a .strong) + unitAmount * a .amount
 
 -- w is the word of a, which is read from it again
 pub record WordAs (a : Asked) (w : ℕ) : Type 0 where

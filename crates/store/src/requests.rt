@@ -1,7 +1,6 @@
 // Requests by slot in three lent arrays: the clocks, a word each of what they ask for, the words of the contexts one after the other.
 use numbers::Clock;
 use request::Asked;
-use request::Operation;
 use request::Request;
 use sets::Context;
 ghost use mathlib.Core.Path.{_≡_};
@@ -37,8 +36,11 @@ fn asked_in(word: u64) -> Asked
     let amount = (word / UNIT_AMOUNT) as u32;
     let strong = word / UNIT_STRENGTH % 2 == 1;
     Asked {
-        operation: Operation { code, r, q, amount },
+        code,
+        r,
+        q,
         strong,
+        amount,
     }
 }
 
@@ -94,10 +96,10 @@ pub fn request_at<'a>(
 fn word_of(a: Asked) -> u64
     ensures { λ w. ⌜ WordAs a w ⌝ }
 {
-    let code = a.operation.code as u64;
-    let r = a.operation.r as u64;
-    let q = a.operation.q as u64;
-    let amount = a.operation.amount as u64;
+    let code = a.code as u64;
+    let r = a.r as u64;
+    let q = a.q as u64;
+    let amount = a.amount as u64;
     let strength = a.strong as u64;
     code + UNIT_R * r + UNIT_Q * q + UNIT_STRENGTH * strength + UNIT_AMOUNT * amount
 }

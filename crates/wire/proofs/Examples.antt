@@ -27,7 +27,7 @@ weak =
     request (record {
       number = numbered 0 1;
       clock = record { 0 = 10 };
-      asked = record { operation = record { code = codeSet; r = 4; q = 0; amount = 6 }; strong = false };
+      asked = record { code = codeSet; r = 4; q = 0; strong = false; amount = 6 };
       context = emptySet;
     })
 
@@ -40,7 +40,7 @@ strong =
     request (record {
       number = numbered 1 2;
       clock = record { 0 = 12 };
-      asked = record { operation = record { code = codeClaim; r = 0; q = 0; amount = 2 }; strong = true };
+      asked = record { code = codeClaim; r = 0; q = 0; strong = true; amount = 2 };
       context = setOf (0 ∷ 1 ∷ replicate 6 0);
     })
 

@@ -81,10 +81,10 @@ pub record Held (r : Request) : Type 0 where
   pub panel : r .number .panel .0 < 2 ^ 8
   pub event : r .number .event .0 < 2 ^ 8
   pub clock : r .clock .0 < 2 ^ 32
-  pub code : r .asked .operation .code < 2 ^ 8
-  pub first : r .asked .operation .r < 2 ^ 8
-  pub second : r .asked .operation .q < 2 ^ 8
-  pub amount : r .asked .operation .amount < 2 ^ 32
+  pub code : r .asked .code < 2 ^ 8
+  pub first : r .asked .r < 2 ^ 8
+  pub second : r .asked .q < 2 ^ 8
+  pub amount : r .asked .amount < 2 ^ 32
   pub words : Words (r .context)
 
 module _ (r : Request) (h : Held r) where

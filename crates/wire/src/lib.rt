@@ -57,9 +57,9 @@ pub struct Reading {
     pub taken: usize,
 }
 
-// The refusal, or 0, and the bytes written.
+// The bytes written, and the refusal, or 0.
 #[repr(C)]
 pub struct Written {
-    pub refusal: u8,
     pub bytes: usize,
+    pub refusal: u8,
 }

@@ -24,7 +24,7 @@ use Rattle.creek.specs.examples.Notation.{Case, case, read, setTo, add, 
 unfoldable pub requestFields : Request → List ℕ
 requestFields x =
     x .number .panel .0 ∷ x .number .event .0 ∷ x .clock .0
-    ∷ x .asked .operation .code ∷ x .asked .operation .r ∷ x .asked .operation .q ∷ x .asked .operation .amount
+    ∷ x .asked .code ∷ x .asked .r ∷ x .asked .q ∷ x .asked .amount
     ∷ one (x .asked .strong) ∷ x .context .words
 
 -- refusal, number, response, mark, and the request to be spread

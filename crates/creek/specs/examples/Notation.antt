@@ -46,7 +46,7 @@ move v r q = operation codeMove r q v
 
 -- that operation, strong or weak
 abbrev pub asking : Operation → Bool → Asked
-asking o isStrong = record { operation = o; strong = isStrong }
+asking o isStrong = record { code = o .code; r = o .r; q = o .q; strong = isStrong; amount = o .amount }
 
 -- request p/e with that clock reading
 abbrev pub request : ℕ → ℕ → ℕ → Operation → Bool → Context → Request

@@ -44,8 +44,9 @@ next c =
     let done = executed c in
     let kept = done .before .before in
     let saved = kept .before in
-    let read = saved .before .before .before in
-    next-by (read .asked-at .ensures) (saved .save .ensures) (kept .saved-word .ensures)
+    let taken = saved .before .before in
+    let read = taken .before in
+    next-by (read .asked-at .ensures) (taken .operation .ensures) (saved .save .ensures) (kept .saved-word .ensures)
     (done .execute .ensures) (c .put-on .ensures)
 
 room : (c : tie.Else1 Inv-loop μ-loop) → body (executed (c .before .before)) .before .loop .count < mostReplies
@@ -81,6 +82,9 @@ cast-asked-at c = omega (arith, asked (c .before))
 
 asked-at-requires : tie.Need-asked-at-requires Inv-loop μ-loop
 asked-at-requires c κs = asked (c .before) .slot
+
+operation-requires : tie.Need-operation-requires Inv-loop μ-loop
+operation-requires c κs = search needs
 
 save-requires : tie.Need-save-requires Inv-loop μ-loop
 save-requires c κs = search needs
@@ -141,6 +145,7 @@ execute-all-spec =
     element-copy-out-slot
     cast-asked-at
     asked-at-requires
+    operation-requires
     save-requires
     saved-word-requires
     execute-requires

@@ -53,6 +53,9 @@ cast-asked-at c = omega (arith, asked (c .before))
 asked-at-requires : tie.Need-asked-at-requires
 asked-at-requires c κs = asked (c .before) .slot
 
+operation-requires : tie.Need-operation-requires
+operation-requires c κs = search needs
+
 save-requires : tie.Need-save-requires
 save-requires c κs = search needs
 
@@ -80,10 +83,11 @@ returns-3 c =
     let done = after-execute on in
     let kept = done .before .before in
     let saved = kept .before in
-    let read = saved .before .before .before in
+    let taken = saved .before .before in
+    let read = taken .before in
     let else = read .before .before in
     execute-done _ _ _ _ _ _ _ _ (idle (else .before .before)) (more else)
-    (next-by (read .asked-at .ensures) (saved .save .ensures) (kept .saved-word .ensures)
+    (next-by (read .asked-at .ensures) (taken .operation .ensures) (saved .save .ensures) (kept .saved-word .ensures)
     (done .execute .ensures) (on .put-on .ensures)) _ (c .reply .ensures)
 
 pub execute-spec : {M : Type 1} → statement M
@@ -98,6 +102,7 @@ execute-spec =
     element-copy-out-slot
     cast-asked-at
     asked-at-requires
+    operation-requires
     save-requires
     saved-word-requires
     execute-requires

@@ -22,6 +22,9 @@ cast-asked-at c = search needs
 asked-at-requires : tie.Need-asked-at-requires
 asked-at-requires c κs = search needs
 
+operation-requires : tie.Need-operation-requires
+operation-requires c κs = search needs
+
 saved-in-requires : tie.Need-saved-in-requires
 saved-in-requires c κs = search needs
 
@@ -30,8 +33,9 @@ rollback-requires c κs = search needs
 
 returns : tie.Need-returns
 returns c =
-    let read = c .before .before .before .before in
-    record { slot = refl; rolled-back = c .rollback .ensures ∙ rw (read .asked-at .ensures, c .before .saved-in .ensures) }
+    let taken = c .before .before .before in
+    let read = taken .before in
+    record { slot = refl; rolled-back = c .rollback .ensures ∙ rw (taken .operation .ensures, read .asked-at .ensures, c .before .saved-in .ensures) }
 
 pub take-off-spec : {M : Type 1} → statement M
 take-off-spec =
@@ -43,6 +47,7 @@ take-off-spec =
     element-copy-out-word
     cast-asked-at
     asked-at-requires
+    operation-requires
     saved-in-requires
     rollback-requires
     returns)

@@ -18,7 +18,7 @@ start c = c .before .before .before .before .before
 -- what the types say of m; `words` is what owning m tells of the array in its context
 held : (c : tie.Start) → Held (c .args .m .request)
 held c =
-    let words = c .good .1 .0 .1 .1 .1 .0 .1 .1 .1 .1 .1 .0 .1 .1 .0 in
+    let words = c .good .1 .0 .1 .1 .1 .0 .1 .1 .0 .1 .1 .0 in
     record {
       panel = search needs;
       event = search needs;
