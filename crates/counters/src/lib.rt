@@ -1,7 +1,7 @@
 // The step counters: one small record of the panel's own, which the counting of steps is lent and updates there.
 //
 // `count_undos` and `count_executions` are lent the counters and told how many steps were done. `undos_counted` and
-// `executions_counted` lend them their own copy and hand it back. Whoever counts shows that the counter stays within `mostSteps` of
+// `executions_counted` are given the counters and return them counted. Whoever counts shows that the counter stays within `mostSteps` of
 // `specs/`, so no addition overflows.
 ghost use mathlib.Core.Path.{_≡_};
 ghost use Prim.Native.Nat.{_+_, _≤_};
@@ -35,9 +35,11 @@ pub fn undos_counted(c: Counters, steps: u32) -> Counters
     requires { ⌜ c .undos + steps ≤ mostSteps ⌝ }
     ensures { λ d. ⌜ d ≡ undosCounted c steps ⌝ }
 {
-    let mut d = c;
-    count_undos(&mut d, steps);
-    d
+    let undos = c.undos + steps;
+    Counters {
+        undos,
+        executions: c.executions,
+    }
 }
 
 // The counters with so many more executions.
@@ -45,7 +47,9 @@ pub fn executions_counted(c: Counters, steps: u32) -> Counters
     requires { ⌜ c .executions + steps ≤ mostSteps ⌝ }
     ensures { λ d. ⌜ d ≡ executionsCounted c steps ⌝ }
 {
-    let mut d = c;
-    count_executions(&mut d, steps);
-    d
+    let executions = c.executions + steps;
+    Counters {
+        undos: c.undos,
+        executions,
+    }
 }

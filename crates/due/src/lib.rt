@@ -106,7 +106,7 @@ fn execute_all<'a>(
         let operation = asks::operation(asked);
         let before = registers::save(registers, operation);
         let word = registers::saved_word(before);
-        let response = registers::execute(registers, operation);
+        let response = registers::execute_due(registers, operation);
         let next = steps::put_on(
             committed,
             awaiting,

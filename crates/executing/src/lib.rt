@@ -6,9 +6,10 @@ use request::Operation;
 use request::operations;
 ghost use Prim.Native.Nat.{_+_, _-_, min};
 ghost use mathlib.Core.Path.{_≡_};
-ghost use mathlib.Core.Bool.{false};
+ghost use mathlib.Core.Bool.{false, cond};
 ghost use Rattle.effects.specs.Effect.{range, offBoard, lowestHeld, allSet, Executed};
 ghost use Rattle.effects.specs.internal.OnBoard.{MoveOnBoard, ClaimOnBoard};
+ghost use Rattle.executing.specs.internal.OneRegister.{onOneRegister, valueAfter, OneOnBoard, OtherOnBoard};
 
 // Executes o on the registers, and returns its response.
 pub fn execute(registers: &mut [u32; 64], o: Operation) -> u32
@@ -17,29 +18,72 @@ pub fn execute(registers: &mut [u32; 64], o: Operation) -> u32
     if off_board(o) {
         return 0;
     }
+    if on_one_register(o.code) {
+        return execute_one(registers, o);
+    }
+    execute_other(registers, o)
+}
+
+// The same for the loop of all due steps, which is its one caller: the compiler puts such a function where it is called, whatever its size.
+pub fn execute_due(registers: &mut [u32; 64], o: Operation) -> u32
+    ensures { λ x. ⌜ Executed o (now (registers .entry)) (now (registers .exit)) x ⌝ }
+{
+    if off_board(o) {
+        return 0;
+    }
+    if !on_one_register(o.code) {
+        return execute_other(registers, o);
+    }
+    execute_one(registers, o)
+}
+
+// Whether an operation of that code is on one register: read, set, add or claim.
+fn on_one_register(code: u8) -> bool
+    ensures { λ r. ⌜ r ≡ onOneRegister code ⌝ }
+{
+    (operations::READ <= code) & (code <= operations::CLAIM)
+}
+
+// Executes an operation on one register, with no branch on its code, which a machine would often guess wrong.
+fn execute_one(registers: &mut [u32; 64], o: Operation) -> u32
+    requires { ⌜ OneOnBoard o ⌝ }
+    ensures { λ x. ⌜ Executed o (now (registers .entry)) (now (registers .exit)) x ⌝ }
+{
     let code = o.code;
-    let amount = o.amount;
     let r = o.r as usize;
     let before = registers[r];
-    if code == operations::READ {
-        return before;
+    let after = value_after(code, before, o.amount);
+    registers[r] = after;
+    chosen(code <= operations::SET, before, after)
+}
+
+// What the register holds after an operation of that code and amount, where it held `before`.
+fn value_after(code: u8, before: u32, amount: u32) -> u32
+    ensures { λ x. ⌜ x ≡ valueAfter code before amount ⌝ }
+{
+    let sum = std::num::wrapping_add_u32(before, amount);
+    let claims = (code == operations::CLAIM) & (before == 0);
+    let claimed = chosen(claims, amount, before);
+    let added = chosen(code == operations::ADD, sum, claimed);
+    chosen(code == operations::SET, amount, added)
+}
+
+// The first of two numbers where the test is met, else the second.
+fn chosen(test: bool, a: u32, b: u32) -> u32
+    ensures { λ x. ⌜ x ≡ cond test a b ⌝ }
+{
+    if test {
+        return a;
     }
-    if code == operations::SET {
-        registers[r] = amount;
-        return before;
-    }
-    if code == operations::ADD {
-        let sum = std::num::wrapping_add_u32(before, amount);
-        registers[r] = sum;
-        return sum;
-    }
-    if code == operations::CLAIM {
-        if before != 0 {
-            return before;
-        }
-        registers[r] = amount;
-        return amount;
-    }
+    b
+}
+
+// Executes any other operation: a move, a claim of registers together, or nothing where the code is not known.
+fn execute_other(registers: &mut [u32; 64], o: Operation) -> u32
+    requires { ⌜ OtherOnBoard o ⌝ }
+    ensures { λ x. ⌜ Executed o (now (registers .entry)) (now (registers .exit)) x ⌝ }
+{
+    let code = o.code;
     if code == operations::MOVE {
         return execute_move(registers, o);
     }

@@ -1,4 +1,4 @@
--- What the walks of the panel's calls share, lowest first, and the laws of lists of calls.
+-- What the walks of the panel's calls share, lowest first.
 pub mod PanelParts
 pub mod PanelWalk
 pub mod PanelReads
@@ -8,4 +8,3 @@ pub mod LentParts
 pub mod CountedSteps
 pub mod ShownCall
 pub mod ShownNumber
-pub mod ListsLaws

@@ -4,6 +4,7 @@
 // those of `effects`, executing is `executing`'s, and both are passed on here.
 // Every function takes any operation: one that names a register over 63 saves zeros, changes nothing and responds 0.
 pub use executing::execute;
+pub use executing::execute_due;
 use request::Operation;
 use request::operations;
 ghost use mathlib.Core.Path.{_≡_};

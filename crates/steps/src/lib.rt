@@ -12,6 +12,7 @@ use replica::Core;
 use request::asks;
 use request::refusal;
 ghost use mathlib.Core.Path.{_≡_};
+ghost use mathlib.Core.Bool.{true};
 ghost use Prim.Native.Nat.{_<_};
 ghost use Rattle.slots.specs.Slots.{mostSlots};
 ghost use Rattle.creek.specs.Replies.{markOf};
@@ -168,8 +169,14 @@ pub fn put_on(
     saved[at] = word;
     responses[at] = response;
     let number = numbers::number_of(slot);
-    let awaited = store::member(awaiting, number);
-    let mark = mark_of(awaited, strong, at < committed);
+    if !store::member_at(awaiting, slot) {
+        return DueReply {
+            number,
+            response,
+            mark: NOBODY,
+        };
+    }
+    let mark = mark_of(strong, at < committed);
     replica::end_waiting(awaiting, number, mark);
     DueReply {
         number,
@@ -178,18 +185,15 @@ pub fn put_on(
     }
 }
 
-// The mark of an execution's reply.
-fn mark_of(awaited: bool, strong: bool, committed: bool) -> u8
-    ensures { λ m. ⌜ m ≡ markOf awaited strong committed ⌝ }
+// The mark of an execution's reply that somebody awaits.
+fn mark_of(strong: bool, committed: bool) -> u8
+    ensures { λ m. ⌜ m ≡ markOf true strong committed ⌝ }
 {
-    if awaited {
-        if strong {
-            if committed {
-                return STABLE;
-            }
-            return TENTATIVE;
+    if strong {
+        if committed {
+            return STABLE;
         }
-        return WEAK;
+        return TENTATIVE;
     }
-    NOBODY
+    WEAK
 }

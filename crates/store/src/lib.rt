@@ -10,6 +10,7 @@ pub mod requests;
 pub use members::join;
 pub use members::leave;
 pub use members::member;
+pub use members::member_at;
 pub use requests::asked_at;
 pub use requests::context_at;
 pub use requests::put_request;

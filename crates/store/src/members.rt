@@ -1,6 +1,7 @@
 // Sets of numbers in lent words, changed in place: `join` and `leave` write one word. They are the sets of the crate `sets`.
 use numbers::Number;
 ghost use mathlib.Core.Path.{_≡_};
+ghost use Rattle.numbers.specs.internal.Slots.{numberOf};
 ghost use Rattle.sets.specs.Sets.{setOf, member as memberOf, join as joined, leave as left};
 
 // Whether n is in the set.
@@ -12,6 +13,21 @@ pub fn member(words: &[u64; 8], n: Number) -> bool
     }
     let panel = n.panel.0 as usize;
     let bit = (n.event.0 - 1) as u64;
+    let word = words[panel];
+    (word >> bit) % 2 == 1
+}
+
+// The most panels and events, as wide as a slot.
+const PANELS: u16 = numbers::MOST_PANELS as u16;
+
+const EVENTS: u16 = numbers::MOST_EVENTS as u16;
+
+// Whether the number of that slot is in the set, by the slot's digits: a slot's number is good, so that there is nothing to test.
+pub fn member_at(words: &[u64; 8], slot: u16) -> bool
+    ensures { λ r. ⌜ r ≡ memberOf (setOf (now (words .entry))) (numberOf slot) ⌝ }
+{
+    let panel = (slot / EVENTS % PANELS) as usize;
+    let bit = (slot % EVENTS) as u64;
     let word = words[panel];
     (word >> bit) % 2 == 1
 }

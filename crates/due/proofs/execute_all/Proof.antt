@@ -20,10 +20,10 @@ abbrev μ-loop : tie.MeasureT-loop
 -- ---- the places in the loop
 
 -- its body, from where the next request is executed, and from where it is on the board
-abbrev body : tie.After-execute Inv-loop μ-loop → tie.In-loop Inv-loop μ-loop
+abbrev body : tie.After-execute-due Inv-loop μ-loop → tie.In-loop Inv-loop μ-loop
 body c = c .before .before .before .before .before .before .before .before
 
-abbrev executed : tie.After-put-on Inv-loop μ-loop → tie.After-execute Inv-loop μ-loop
+abbrev executed : tie.After-put-on Inv-loop μ-loop → tie.After-execute-due Inv-loop μ-loop
 executed c = c .before .before .before .before .before
 
 abbrev start : tie.In-loop Inv-loop μ-loop → tie.Start Inv-loop μ-loop
@@ -38,7 +38,7 @@ next : (c : tie.After-put-on Inv-loop μ-loop)
     → let here = body (executed c) .before .loop in
     let a = start (body (executed c)) in
     Next (a .args .core .committed) (here .awaiting) (a .args .operations .now) (a .args .order .now) (here .stack) (here .registers) (here .saved)
-    (here .responses) (here .at) (c .put-on .last .1 .0) (c .put-on .last .1 .1 .0) (executed c .execute .last .0)
+    (here .responses) (here .at) (c .put-on .last .1 .0) (c .put-on .last .1 .1 .0) (executed c .execute-due .last .0)
     (c .put-on .last .1 .1 .1 .0) (c .put-on .last .1 .1 .1 .1 .0) (c .put-on .result)
 next c =
     let done = executed c in
@@ -47,7 +47,7 @@ next c =
     let taken = saved .before .before in
     let read = taken .before in
     next-by (read .asked-at .ensures) (taken .operation .ensures) (saved .save .ensures) (kept .saved-word .ensures)
-    (done .execute .ensures) (c .put-on .ensures)
+    (done .execute-due .ensures) (c .put-on .ensures)
 
 room : (c : tie.Else1 Inv-loop μ-loop) → body (executed (c .before .before)) .before .loop .count < mostReplies
 room c =
@@ -92,8 +92,8 @@ save-requires c κs = search needs
 saved-word-requires : tie.Need-saved-word-requires Inv-loop μ-loop
 saved-word-requires c κs = search needs
 
-execute-requires : tie.Need-execute-requires Inv-loop μ-loop
-execute-requires c κs = search needs
+execute-due-requires : tie.Need-execute-due-requires Inv-loop μ-loop
+execute-due-requires c κs = search needs
 
 put-on-requires : tie.Need-put-on-requires Inv-loop μ-loop
 put-on-requires c κs = asked (body (c .before .before .before .before)) .place
@@ -148,7 +148,7 @@ execute-all-spec =
     operation-requires
     save-requires
     saved-word-requires
-    execute-requires
+    execute-due-requires
     put-on-requires
     add-at
     loop-less

@@ -1,5 +1,6 @@
 -- `steps::put_on` meets its contract.
-use mathlib.Core.Path.{refl, _∙_}
+use mathlib.Core.Path.{refl, sym, _∙_}
+use borrow.Author.Tests.{not-true, not-false}
 use borrow.Author.Needs.{needs}
 use Rattle.steps.proofs.put_on.Statement.{statement}
 use Rattle.steps.proofs.put_on.Tie as tie
@@ -25,8 +26,8 @@ element-write-responses c = search needs
 number-of-requires : tie.Need-number-of-requires
 number-of-requires c κs = search needs
 
-member-requires : tie.Need-member-requires
-member-requires c κs = search needs
+member-at-requires : tie.Need-member-at-requires
+member-at-requires c κs = search needs
 
 mark-of-requires : tie.Need-mark-of-requires
 mark-of-requires c κs = search needs
@@ -34,10 +35,10 @@ mark-of-requires c κs = search needs
 end-waiting-requires : tie.Need-end-waiting-requires
 end-waiting-requires c κs = search needs
 
+-- nobody awaits it
 returns : tie.Need-returns
 returns c =
-    let marked = c .before .before in
-    let here = marked .before in
+    let here = c .before in
     let numbered = here .before .before in
     record {
       on-board = refl;
@@ -45,7 +46,24 @@ returns c =
       replied = refl;
       number = numbered .number-of .ensures;
       its-response = refl;
-      mark = marked .mark-of .ensures ∙ rw (here .member .ensures, numbered .number-of .ensures);
+      mark = rw (sym (here .member-at .ensures) ∙ not-true _ (c .if1 .taken));
+      waits = refl;
+    }
+
+-- somebody does
+returns-2 : tie.Need-returns-2
+returns-2 c =
+    let marked = c .before .before in
+    let asked = marked .before in
+    let here = asked .before in
+    let numbered = here .before .before in
+    record {
+      on-board = refl;
+      kept = refl;
+      replied = refl;
+      number = numbered .number-of .ensures;
+      its-response = refl;
+      mark = marked .mark-of .ensures ∙ rw (sym (here .member-at .ensures) ∙ not-false _ (asked .if1 .left));
       waits = c .end-waiting .ensures;
     }
 
@@ -60,7 +78,8 @@ put-on-spec =
     mul-responses
     element-write-responses
     number-of-requires
-    member-requires
+    member-at-requires
+    returns
     mark-of-requires
     end-waiting-requires
-    returns)
+    returns-2)

@@ -9,7 +9,7 @@ use Rattle.driver.specs.declared.RunResult.{RunResult}
 use Rattle.creek.specs.Calls.{freshRefusal}
 use Rattle.encoding.specs.Encoding.{panelsOf, ownOf, tight}
 use Rattle.driver.specs.Running.{RanList}
-use Rattle.mizzencord.specs.Lists.{Answered}
+use Rattle.mizzencord_tools.specs.Lists.{Answered}
 
 not-twice : (b : Bool) → not (not b) ≡ b
 not-twice true = refl

@@ -8,7 +8,7 @@ use lib.Seq.{sets}
 use Rattle.request.specs.Refusal.{noRoom}
 use Rattle.creek.specs.Calls.{freshRefusal}
 use Rattle.encoding.specs.Encoding.{panelsOf, ownOf, freshOf, tight, entriesRun, answersBytes}
-use Rattle.mizzencord.specs.declared.bytes.ListResult.{ListResult}
+use Rattle.mizzencord_tools.specs.declared.ListResult.{ListResult}
 
 -- the calls of s were run where the lent bytes were out and are out′
 pub record Answered (s out out′ : List ℕ) (r : ListResult) : Type 0 where

@@ -1,8 +1,8 @@
 -- `mizzencord_run` meets its contract.
 use borrow.Author.Needs.{needs}
-use Rattle.mizzencord.proofs.ListsLaws.{answered-all, answered-none}
-use Rattle.mizzencord.proofs.bytes.mizzencord_run.Statement.{statement}
-use Rattle.mizzencord.proofs.bytes.mizzencord_run.Tie as tie
+use Rattle.mizzencord_tools.proofs.ListsLaws.{answered-all, answered-none}
+use Rattle.mizzencord_tools.proofs.mizzencord_run.Statement.{statement}
+use Rattle.mizzencord_tools.proofs.mizzencord_run.Tie as tie
 
 run-requires : tie.Need-run-requires
 run-requires c κs = search needs

@@ -1,3 +1,0 @@
--- The laws of lent counters.
-pub mod Lent
-pub mod Lending

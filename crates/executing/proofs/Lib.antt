@@ -1,0 +1,2 @@
+-- The laws of the operations on one register.
+pub mod OneRegisterLaws

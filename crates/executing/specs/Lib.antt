@@ -1,0 +1,2 @@
+-- What an operation on one register comes to, which no public contract cites.
+pub mod internal

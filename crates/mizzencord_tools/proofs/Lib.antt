@@ -1,0 +1,2 @@
+-- The laws of lists of calls.
+pub mod ListsLaws
