@@ -17,6 +17,15 @@ pub struct Invocation {
     pub clock: Clock,
 }
 
+// What a step or a settlement says, and a reply that falls due, in eight bytes: its response, a request's number, the mark and the refusal.
+#[repr(C)]
+pub struct Reply {
+    pub response: u32,
+    pub number: Number,
+    pub mark: u8,
+    pub refusal: u8,
+}
+
 // What a call answers: every field for every call, zeros where it has nothing to say.
 #[repr(C)]
 pub struct Answer {

@@ -29,7 +29,7 @@ use Rattle.creek.specs.History.{dueCall, afterDueSteps, idled}
 use Rattle.creek.proofs.ExecutionLaws.{idle-owed}
 use Rattle.creek.specs.Showing.{owedShown}
 use Rattle.counters.specs.declared.Counters.{Counters}
-use Rattle.steps.specs.declared.DueReply.{DueReply}
+use Rattle.creek.specs.declared.Reply.{Reply}
 use Rattle.replica.specs.State.{State, Called}
 use Rattle.store.specs.Requests.{askedIn, requestAt}
 use Rattle.replica.specs.Promises.{Kept}
@@ -65,7 +65,7 @@ module _ (p : State) (c : Call) (r : Called) (kept : Kept p c r) (is : dueCall (
   replies-on : consIf (isAwaited (r .answer)) (replyIn (r .answer)) (repliesOwed (r .state)) ≡ repliesOwed p
   unfolding dueReplies
   replies-on =
-      let rest : Replica → List DueReply = dueReplies (owedShown (model (r .state))) in
+      let rest : Replica → List Reply = dueReplies (owedShown (model (r .state))) in
       ap (λ (m : Replica). consIf (isAwaited (r .answer)) (replyIn (r .answer)) (rest m)) (kept .state)
       ∙ ap (λ (a : Answer). consIf (isAwaited a) (replyIn a) (rest (step (model p) c))) (kept .answer)
       ∙ ap (λ (d : Call). consIf (isAwaited (answer (model p) d)) (replyIn (answer (model p) d)) (rest (step (model p) d))) (sym is)
@@ -132,7 +132,7 @@ rolling-end p q h all = record {
 -- ---- the loop of executions
 
 -- from p to q only executions were done, and the first n of the array are the replies that fell due
-pub record Executing (p q : State) (replies : List DueReply) (n : ℕ) : Type 0 where
+pub record Executing (p q : State) (replies : List Reply) (n : ℕ) : Type 0 where
   pub invariant : Inv q
   pub nothing : q .executed ≡ q .stacked
   pub state : idled (model q) ≡ idled (model p)
@@ -142,7 +142,7 @@ pub record Executing (p q : State) (replies : List DueReply) (n : ℕ) : Type 0 
   -- each was about an own request
   pub few : n ≤ count (isOf (q .own .0)) (take (q .executed) (orderOf q))
 
-pub executing-start : (p : State) (none : DueReply) → Inv p → p .executed ≡ p .stacked → none ≡ noReply
+pub executing-start : (p : State) (none : Reply) → Inv p → p .executed ≡ p .stacked → none ≡ noReply
     → Executing p p (replicate mostReplies none) 0
 executing-start p none inv e z = rw z record {
   invariant = inv;
@@ -154,7 +154,7 @@ executing-start p none inv e z = rw z record {
   few = omega arith;
 }
 
-module _ (p q : State) (replies : List DueReply) (n : ℕ) (h : Executing p q replies n) where
+module _ (p q : State) (replies : List Reply) (n : ℕ) (h : Executing p q replies n) where
   -- at most 64 replies fall due
   own-within : (k : ℕ) → count (isOf (q .own .0)) (take k (orderOf q)) ≤ mostReplies
   unfolding bookOf planOf
@@ -176,7 +176,7 @@ module _ (p q : State) (replies : List DueReply) (n : ℕ) (h : Executing p q re
     count = sym (ap length (sym whole) ∙ length-take-le n replies inside);
     replies =
         sym (take-append-drop n replies)
-        ∙ ap (λ (l : List DueReply). take n replies ++ l) (h .rest)
+        ∙ ap (λ (l : List Reply). take n replies ++ l) (h .rest)
         ∙ ap (λ (k : ℕ). take n replies ++ replicate (mostReplies - k) noReply) (sym (length-take-le n replies inside))
         ∙ ap padded whole;
     idle = idle-owed (model q .book .execution) none;
@@ -190,7 +190,7 @@ module _ (p q : State) (replies : List DueReply) (n : ℕ) (h : Executing p q re
       inside = omega (arith, h .few, h .long, own-within (q .executed))
 
       whole : take n replies ≡ repliesOwed p
-      whole = sym (append-nil (take n replies)) ∙ ap (λ (l : List DueReply). take n replies ++ l) (sym (replies-end q none)) ∙ h .shown
+      whole = sym (append-nil (take n replies)) ∙ ap (λ (l : List Reply). take n replies ++ l) (sym (replies-end q none)) ∙ h .shown
 
   module _ (more : q .executed < q .ordered) (after : List ℕ) (word v : ℕ) (number : Number) (mark : ℕ)
       (before : savedIn word ≡ savedOf (nextOperation q) (q .registers))
@@ -242,18 +242,16 @@ module _ (p q : State) (replies : List DueReply) (n : ℕ) (h : Executing p q re
         invariant = kept .invariant;
         nothing = refl;
         state = state-on q execute called kept is less ∙ h .state;
-        shown = ap (λ (l : List DueReply). take n replies ++ l) (replies-quiet q execute called kept is less e) ∙ h .shown;
+        shown = ap (λ (l : List Reply). take n replies ++ l) (replies-quiet q execute called kept is less e) ∙ h .shown;
         rest = h .rest;
         long = h .long;
         few = omega (arith, h .few, own-more);
       }
 
-      pub executing-replied : (mark ≡ noMark → ⊥)
-          → Executing p (executedState q after word v awaiting counters)
-          (set replies n (record { number = number; response = v; mark = mark })) (n + 1)
-      executing-replied due =
+      pub executing-replied : (mark ≡ noMark → ⊥) → (x : Reply) → x ≡ replyIn (called .answer)
+          → Executing p (executedState q after word v awaiting counters) (set replies n x) (n + 1)
+      executing-replied due x said =
           let inside : n < length replies = omega (arith, executing-room due, h .long) in
-          let x : DueReply = record { number = number; response = v; mark = mark } in
           let front : take (n + 1) (set replies n x) ≡ take n replies ++ x ∷ [] =
           rw (add-one n) (take-suc-set replies n x inside) in
           let left-over : mostReplies - n ≡ suc (mostReplies - (n + 1)) = omega (arith, executing-room due) in
@@ -262,9 +260,10 @@ module _ (p q : State) (replies : List DueReply) (n : ℕ) (h : Executing p q re
             nothing = refl;
             state = state-on q execute called kept is less ∙ h .state;
             shown =
-                ap (λ (l : List DueReply). l ++ repliesOwed (called .state)) front
+                ap (λ (l : List Reply). l ++ repliesOwed (called .state)) front
                 ∙ append-snoc (take n replies) x (repliesOwed (called .state))
-                ∙ ap (λ (l : List DueReply). take n replies ++ l) (replies-shown q execute called kept is less due)
+                ∙ ap (λ (x : Reply). take n replies ++ x ∷ repliesOwed (called .state)) said
+                ∙ ap (λ (l : List Reply). take n replies ++ l) (replies-shown q execute called kept is less due)
                 ∙ h .shown;
             rest =
                 drop-set-lt (n + 1) replies n x (omega arith)

@@ -6,15 +6,15 @@ use mathlib.Core.List.{List}
 use lib.ListN.{set, replicate}
 use Rattle.counters.specs.declared.Counters.{Counters}
 use Rattle.counters.specs.Counted.{undosCounted, executionsCounted}
-use Rattle.creek.specs.Replies.{noMark}
+use Rattle.creek.specs.Replies.{noMark, reply}
 use Rattle.replica.specs.declared.Core.{Core}
-use Rattle.steps.specs.declared.DueReply.{DueReply}
+use Rattle.creek.specs.declared.Reply.{Reply}
 use Rattle.due.specs.declared.DueResult.{DueResult}
 use Rattle.replica.specs.State.{State}
 use Rattle.replica.specs.internal.Cores.{withBoard}
 use Rattle.replica.specs.internal.Model.{Inv}
 use Rattle.steps.specs.Steps.{undoParts, UndoAsks, TopAsks, TakenOff, executeParts, ExecuteAsks}
-use Rattle.due.specs.Due.{DueOutcome, noReply, mostReplies, RunDue}
+use Rattle.due.specs.Due.{DueOutcome, noReply, replyIn, mostReplies, RunDue}
 use Rattle.due.specs.internal.Parts.{ranParts, RolledBack, ExecutedAll, AllUndone, AllExecuted, DueKept}
 use Rattle.replica.proofs.ModelLaws.{top-slot, next-slot}
 use Rattle.steps.proofs.ExecuteLaws.{NextReply}
@@ -101,14 +101,14 @@ module _ (core : Core) (awaiting operations order stack registers saved response
       executeParts p (executionsCounted (p .counters) (at - core .executed)) (withBoard core at at) awaiting′ operations order stack′ registers′
       saved′ responses′
 
-  pub record ExecutingParts (awaiting′ stack′ registers′ saved′ responses′ : List ℕ) (replies : List DueReply) (count at : ℕ) : Type 0 where
+  pub record ExecutingParts (awaiting′ stack′ registers′ saved′ responses′ : List ℕ) (replies : List Reply) (count at : ℕ) : Type 0 where
     pub low : core .executed ≤ at
     pub high : at ≤ core .ordered
     pub executing : (p : State) → Inv (executed-from p)
         → Executing (executed-from p) (executed-to p awaiting′ stack′ registers′ saved′ responses′ at) replies count
 
   pub execute-start : ExecuteAsks core awaiting operations order stack registers saved responses → core .executed ≡ core .stacked
-      → (none : DueReply) → none ≡ noReply
+      → (none : Reply) → none ≡ noReply
       → ExecutingParts awaiting stack registers saved responses (replicate mostReplies none) 0 (core .executed)
   execute-start asks idle none is = record {
     low = omega arith;
@@ -120,7 +120,7 @@ module _ (core : Core) (awaiting operations order stack registers saved response
         (replicate mostReplies none) 0) (none-executed (p .counters) (core .executed - core .executed) (omega arith)) (executing-start (executed-from p) none inv idle is));
   }
 
-  module _ {awaiting′ stack′ registers′ saved′ responses′ : List ℕ} {replies : List DueReply} {count at : ℕ}
+  module _ {awaiting′ stack′ registers′ saved′ responses′ : List ℕ} {replies : List Reply} {count at : ℕ}
       (h : ExecutingParts awaiting′ stack′ registers′ saved′ responses′ replies count at) where
     abbrev here : State → State
     here p = executed-to p awaiting′ stack′ registers′ saved′ responses′ at
@@ -148,7 +148,7 @@ module _ (core : Core) (awaiting operations order stack registers saved response
               (executing-end (executed-from p) (here p) replies count (h .executing p inv) (omega arith) undos executions is));
         }
 
-    module _ (more : at < core .ordered) {awaiting″ stack″ registers″ saved″ responses″ : List ℕ} {r : DueReply}
+    module _ (more : at < core .ordered) {awaiting″ stack″ registers″ saved″ responses″ : List ℕ} {r : Reply}
         (next : Next (core .committed) awaiting′ operations order stack′ registers′ saved′ responses′ at
         awaiting″ stack″ registers″ saved″ responses″ r) where
       about : (p : State) → NextReply (here p) (r .number) (r .mark)
@@ -177,6 +177,10 @@ module _ (core : Core) (awaiting operations order stack registers saved response
           executing-room (executed-from p) (here p) replies count (h .executing p (asks .invariant)) more registers″ (next .word) (r .response)
           (r .number) (r .mark) (next .restores) (next .done) (about p) due
 
+      -- what the reply is, field by field
+      said : r ≡ replyIn (reply (r .number) (r .response) (r .mark))
+      said = λ i. record { response = r .response; number = r .number; mark = r .mark; refusal = next .put .refusal i }
+
       pub execute-replied : (r .mark ≡ noMark → ⊥)
           → ExecutingParts awaiting″ stack″ registers″ saved″ responses″ (set replies count r) (count + 1) (at + 1)
       execute-replied due = record {
@@ -186,7 +190,7 @@ module _ (core : Core) (awaiting operations order stack registers saved response
             rw (next .put .on-board, next .put .kept, next .put .replied)
             (executing-replied (executed-from p) (here p) replies count (h .executing p inv) more registers″ (next .word) (r .response) (r .number)
             (r .mark) (next .restores) (next .done) (about p) awaiting″ (executionsCounted (p .counters) (at + 1 - core .executed)) (next .put .waits)
-            (counted p) due);
+            (counted p) due r said);
       }
 
 -- ---- both

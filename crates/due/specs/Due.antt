@@ -6,33 +6,33 @@ use mathlib.Core.List.{List, [], _++_}
 use lib.ListN.{length, replicate}
 use lib.Dec.{eqb}
 use Rattle.lists.specs.Lists.{consIf}
-use Rattle.numbers.specs.Numbers.{noNumber, mostEvents}
+use Rattle.numbers.specs.Numbers.{mostEvents}
 use Rattle.creek.specs.declared.Answer.{Answer}
 use Rattle.creek.specs.Execution.{isIdle}
-use Rattle.creek.specs.Replies.{noMark}
+use Rattle.creek.specs.Replies.{noMark, done}
 use Rattle.creek.specs.Calls.{Replica, step, answer}
 use Rattle.creek.specs.History.{dueCall, idled}
 use Rattle.creek.specs.Showing.{owedShown}
-use Rattle.steps.specs.declared.DueReply.{DueReply}
+use Rattle.creek.specs.declared.Reply.{Reply}
 use Rattle.replica.specs.State.{State}
 use Rattle.replica.specs.internal.Model.{model, Inv}
 
 -- ---- the replies
 
--- the reply of zeros
-abbrev pub noReply : DueReply
-noReply = record { number = noNumber; response = 0; mark = noMark }
+-- what an answer says beside its request
+abbrev pub replyIn : Answer → Reply
+replyIn a = record { response = a .response; number = a .number; mark = a .mark; refusal = a .refusal }
 
--- number, response and mark of an answer
-abbrev pub replyIn : Answer → DueReply
-replyIn a = record { number = a .number; response = a .response; mark = a .mark }
+-- the reply of zeros
+abbrev pub noReply : Reply
+noReply = replyIn done
 
 -- somebody waits for that answer
 abbrev pub isAwaited : Answer → Bool
 isAwaited a = not (eqb (a .mark) noMark)
 
 -- the replies with a mark among the answers of so many due steps, in their order
-unfoldable pub dueReplies : ℕ → Replica → List DueReply
+unfoldable pub dueReplies : ℕ → Replica → List Reply
 dueReplies zero r = []
 dueReplies (suc k) r =
     consIf (isAwaited (answer r (dueCall (r .book)))) (replyIn (answer r (dueCall (r .book)))) (dueReplies k (step r (dueCall (r .book))))
@@ -42,7 +42,7 @@ abbrev pub mostReplies : ℕ
 mostReplies = mostEvents
 
 -- those replies, and replies of zeros up to the most
-abbrev pub padded : List DueReply → List DueReply
+abbrev pub padded : List Reply → List Reply
 padded l = l ++ replicate (mostReplies - length l) noReply
 
 -- ---- the call
@@ -52,11 +52,11 @@ pub record DueOutcome : Type 0 where
   pub undos : ℕ
   pub executions : ℕ
   pub count : ℕ
-  pub replies : List DueReply
+  pub replies : List Reply
   pub state : State
 
 -- the replies that fall due until it is idle
-abbrev pub repliesOwed : State → List DueReply
+abbrev pub repliesOwed : State → List Reply
 repliesOwed p = dueReplies (owedShown (model p)) (model p)
 
 -- every due step done on p

@@ -1,9 +1,10 @@
 // All due steps in one call: what is to be rolled back is undone, then what is to do is executed.
+use creek::Reply;
 use creek::mark::NOBODY;
 use numbers::Number;
 use replica::Core;
 use request::asks;
-use steps::DueReply;
+use request::refusal;
 ghost use mathlib.Core.Path.{_≡_};
 ghost use Rattle.steps.specs.Steps.{UndoAsks, ExecuteAsks};
 ghost use Rattle.due.specs.Due.{noReply};
@@ -15,7 +16,7 @@ pub struct DueSteps {
     pub undos: u32,
     pub executions: u32,
     pub count: usize,
-    pub replies: [DueReply; 64],
+    pub replies: [Reply; 64],
 }
 
 // What run_due returns: the core after it, and the steps done.
@@ -140,15 +141,16 @@ fn execute_all<'a>(
 
 // The reply of zeros, which stands behind those that fell due. Its number is given by parts, by which the compiler fills the replies in
 // place.
-fn no_reply() -> DueReply
+fn no_reply() -> Reply
     ensures { λ r. ⌜ r ≡ noReply ⌝ }
 {
     let none = numbers::none();
     let panel = none.panel;
     let event = none.event;
-    DueReply {
-        number: Number { panel, event },
+    Reply {
         response: 0,
+        number: Number { panel, event },
         mark: NOBODY,
+        refusal: refusal::ACCEPTED,
     }
 }

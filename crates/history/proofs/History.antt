@@ -23,7 +23,7 @@ use Rattle.creek.proofs.CallLaws.{answer-refusal, run-book, run-append, answers
 use Rattle.creek.proofs.Demand.{demand-3}
 use Rattle.replica.specs.State.{State, Opened}
 use Rattle.due.specs.Due.{DueOutcome, noReply, replyIn, isAwaited, dueReplies, mostReplies, repliesOwed, RunDue}
-use Rattle.steps.specs.declared.DueReply.{DueReply}
+use Rattle.creek.specs.declared.Reply.{Reply}
 use Rattle.replica.specs.Promises.{Fresh}
 use Rattle.replica.specs.internal.Model.{model, Inv}
 use Rattle.replica.proofs.ModelLaws.{registers-are}
@@ -159,7 +159,7 @@ module _ {panels own : ℕ} {opened : Opened} {calls : List Call} {answers : Lis
         count = ran .count ∙ ap length replied;
         replies =
             ran .replies ∙ ap (λ (n : ℕ). repliesOwed q ++ replicate (mostReplies - n) noReply) (sym (ran .count))
-            ∙ ap (λ (l : List DueReply). l ++ replicate (mostReplies - r .count) noReply) replied;
+            ∙ ap (λ (l : List Reply). l ++ replicate (mostReplies - r .count) noReply) replied;
       }
 
   pub panel-demand-3 : PanelDemand3 panels own calls answers q

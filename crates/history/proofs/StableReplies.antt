@@ -24,7 +24,7 @@ use Rattle.creek.proofs.StableReply.{sound-stable-reply}
 use Rattle.creek.specs.Showing.{owedShown}
 use Rattle.replica.specs.State.{State}
 use Rattle.due.specs.Due.{DueOutcome, noReply, replyIn, isAwaited, dueReplies, mostReplies, repliesOwed, RunDue}
-use Rattle.steps.specs.declared.DueReply.{DueReply}
+use Rattle.creek.specs.declared.Reply.{Reply}
 use Rattle.replica.specs.internal.Model.{model}
 use Rattle.history.specs.History.{Leads}
 use Rattle.history.specs.PanelHistory.{PanelHistory, historyOf}
@@ -53,7 +53,7 @@ due-number b v = go (isNil (b .execution .rollback))
     go false = refl
 
 -- a reply that is stable is the response in a replay of those requests
-abbrev StandsIn : List Request → DueReply → Type 0
+abbrev StandsIn : List Request → Reply → Type 0
 StandsIn l d = d .mark ≡ stableMark → d .response ≡ responseIn (d .number) l
 
 due-replies-stand : (k : ℕ) (r : Replica) (further : List Call) → Sound r

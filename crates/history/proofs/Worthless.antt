@@ -22,7 +22,7 @@ use Rattle.creek.specs.Calls.{Replica, badShop, fresh, accept, step}
 use Rattle.creek.specs.History.{run, dueCalls, answersTo, refusalsIn}
 use Rattle.creek.specs.Showing.{registerShown, requestsShown, undosShown, executionsShown, owedShown}
 use Rattle.replica.specs.State.{State}
-use Rattle.steps.specs.declared.DueReply.{DueReply}
+use Rattle.creek.specs.declared.Reply.{Reply}
 use Rattle.replica.specs.Promises.{Fresh}
 use Rattle.replica.specs.internal.Model.{model, Inv}
 use Rattle.due.specs.Due.{noReply, RunDue}
@@ -48,7 +48,7 @@ abbrev AllAccepted : List Call → Type 0
 AllAccepted calls = refusalsIn (answering calls) ≡ map (λ c. refused.accepted) calls
 
 -- the replies that fall due when all due steps are done on it
-abbrev replying : Replica → List DueReply
+abbrev replying : Replica → List Reply
 replying r = repliesIn (answersTo r (dueCalls (owedShown r) (r .book)))
 
 record Computed : Type 0 where
@@ -219,8 +219,8 @@ module _ (panel : Panel) where
     response-at : (place : ℕ) → place < 2
         → getD (panel .run-due twoMade .replies) place noReply .response ≡ getD (replying (running (twoSets []))) place noReply .response
     response-at place low =
-        ap (λ (l : List DueReply). getD l place noReply .response) (two-done .replies)
-        ∙ ap (λ (d : DueReply). d .response) (List·getD-append (replying (model twoMade)) _ noReply place (omega (arith, two-replied)))
+        ap (λ (l : List Reply). getD l place noReply .response) (two-done .replies)
+        ∙ ap (λ (d : Reply). d .response) (List·getD-append (replying (model twoMade)) _ noReply place (omega (arith, two-replied)))
         ∙ ap (λ (r : Replica). getD (replying r) place noReply .response) made-two
 
   leaves-due : LeavesDue panel → Keeps panel 1 0 twoSetsDue → ⊥

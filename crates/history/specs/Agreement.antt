@@ -13,7 +13,7 @@ use Rattle.creek.specs.StableReply.{repliedTo}
 use Rattle.creek.specs.Agreement.{Extends, AcceptedSame, Idle}
 use Rattle.replica.specs.State.{State}
 use Rattle.due.specs.Due.{DueOutcome, noReply, RunDue}
-use Rattle.steps.specs.declared.DueReply.{DueReply}
+use Rattle.creek.specs.declared.Reply.{Reply}
 use Rattle.replica.specs.declared.RegisterValue.{RegisterValue}
 use Rattle.replica.specs.declared.PlacedRequest.{PlacedRequest}
 use Rattle.replica.specs.internal.Model.{model}
@@ -37,7 +37,7 @@ callAt calls place = getD calls place undo
 abbrev pub answerAt : List Answer → ℕ → Answer
 answerAt answers place = getD answers place done
 
-abbrev pub replyAt : DueOutcome → ℕ → DueReply
+abbrev pub replyAt : DueOutcome → ℕ → Reply
 replyAt r place = getD (r .replies) place noReply
 
 -- whatever is called on it then, its settled list only grows at its end

@@ -21,7 +21,7 @@ use Rattle.creek.specs.Showing.{requestsShown, commitsShown, undosShown, execut
 use Rattle.creek.specs.Demand.{mostUndos}
 use Rattle.replica.specs.State.{State, Called}
 use Rattle.due.specs.Due.{DueOutcome, noReply, replyIn, isAwaited, mostReplies, RunDue}
-use Rattle.steps.specs.declared.DueReply.{DueReply}
+use Rattle.creek.specs.declared.Reply.{Reply}
 use Rattle.replica.specs.Promises.{Kept}
 use Rattle.replica.specs.internal.Model.{model, Inv}
 
@@ -52,7 +52,7 @@ pub data Leads : State → List Call → List Answer → State → Type 0 where
       → (Inv p → RunDue p r) → Leads (r .state) cs answers q → Leads p (stepsDue p ++ cs) (answersDue p ++ answers) q
 
 -- number, response and mark of each answer that has a mark
-abbrev pub repliesIn : List Answer → List DueReply
+abbrev pub repliesIn : List Answer → List Reply
 repliesIn answers = map replyIn (keep isAwaited answers)
 
 -- ---- demand 3 of the panel

@@ -21,7 +21,7 @@ use Rattle.creek.specs.declared.Answer.{Answer}
 use Rattle.creek.specs.Book.{undo, execute, refusal}
 use Rattle.creek.specs.Replies.{noMark, refusedWith, reply, namedByRefusal}
 use Rattle.replica.specs.declared.Core.{Core}
-use Rattle.steps.specs.declared.DueReply.{DueReply}
+use Rattle.creek.specs.declared.Reply.{Reply}
 use Rattle.replica.specs.State.{State}
 use Rattle.replica.specs.internal.Cores.{withBoard}
 use Rattle.replica.specs.Promises.{Kept}
@@ -89,7 +89,7 @@ askedNext operations order at = askedIn (getD operations (getD order at 0) 0)
 
 -- the request at place `at` of the order, of which so many are committed, was executed and put on the board there, with that reply
 pub record Next (committed : ℕ) (awaiting operations order stack registers saved responses : List ℕ) (at : ℕ)
-    (awaiting′ stack′ registers′ saved′ responses′ : List ℕ) (r : DueReply) : Type 0 where
+    (awaiting′ stack′ registers′ saved′ responses′ : List ℕ) (r : Reply) : Type 0 where
   pub word : ℕ
   pub restores : savedIn word ≡ savedOf (operationOf (askedNext operations order at)) registers
   pub done : Executed (operationOf (askedNext operations order at)) registers registers′ (r .response)
@@ -98,7 +98,7 @@ pub record Next (committed : ℕ) (awaiting operations order stack registers sav
 
 -- from one equation for each value that is computed
 pub next-by : {committed at : ℕ} {awaiting operations order stack registers saved responses awaiting′ stack′ registers′ saved′ responses′ : List ℕ}
-    {a : Asked} {o : Operation} {s : Saved} {word v : ℕ} {r : DueReply}
+    {a : Asked} {o : Operation} {s : Saved} {word v : ℕ} {r : Reply}
     → a ≡ askedNext operations order at → o ≡ operationOf a → s ≡ savedOf o registers → SavedAs s word
     → Executed o registers registers′ v
     → PutOn committed awaiting stack saved responses at (getD order at 0) (a .strong) word v awaiting′ stack′ saved′ responses′ r
@@ -155,7 +155,7 @@ module _ (core : Core) (awaiting operations order stack registers saved response
         → core .executed < core .ordered → NextAsks order (core .executed)
     execute-next p inv more = record { place = omega (arith, inv .counts); slot = next-slot (start p) inv more }
 
-    pub execute-done : core .executed < core .ordered → {awaiting′ stack′ registers′ saved′ responses′ : List ℕ} {r : DueReply}
+    pub execute-done : core .executed < core .ordered → {awaiting′ stack′ registers′ saved′ responses′ : List ℕ} {r : Reply}
         → Next (core .committed) awaiting operations order stack registers saved responses (core .executed)
         awaiting′ stack′ registers′ saved′ responses′ r
         → (a : Answer) → a ≡ reply (r .number) (r .response) (r .mark)

@@ -15,12 +15,13 @@ use Rattle.store.specs.Requests.{askedIn}
 use Rattle.creek.specs.Book.{undo, execute}
 use Rattle.creek.specs.Replies.{awaitingAfter, markOf}
 use Rattle.replica.specs.declared.Core.{Core}
-use Rattle.steps.specs.declared.DueReply.{DueReply}
+use Rattle.creek.specs.declared.Reply.{Reply}
 use Rattle.steps.specs.declared.StepResult.{StepResult}
 use Rattle.replica.specs.State.{State, packed}
 use Rattle.replica.specs.Promises.{Kept}
 use Rattle.replica.specs.internal.Model.{Inv}
 use Rattle.request.specs.Asked.{operationOf}
+use Rattle.request.specs.Refusal as refused
 
 -- ---- undo
 
@@ -78,11 +79,12 @@ pub record ExecuteKept (core : Core) (awaiting operations order stack registers 
 -- the request in that slot, of that strength, was put on the board at place `at`, with that word saved and that response, where so many of
 -- the order are committed; its reply is r
 pub record PutOn (committed : ℕ) (awaiting stack saved responses : List ℕ) (at slot : ℕ) (strong : Bool) (word response : ℕ)
-    (awaiting′ stack′ saved′ responses′ : List ℕ) (r : DueReply) : Type 0 where
+    (awaiting′ stack′ saved′ responses′ : List ℕ) (r : Reply) : Type 0 where
   pub on-board : stack′ ≡ set stack at slot
   pub kept : saved′ ≡ set saved at word
   pub replied : responses′ ≡ set responses at response
   pub number : r .number ≡ numberOf slot
   pub its-response : r .response ≡ response
+  pub refusal : r .refusal ≡ refused.accepted
   pub mark : r .mark ≡ markOf (member (setOf awaiting) (numberOf slot)) strong (ltb at committed)
   pub waits : setOf awaiting′ ≡ awaitingAfter (setOf awaiting) (r .number) (r .mark)

@@ -3,6 +3,7 @@
 // Taking a request off the board and putting one on are functions of their own, which all due steps at once (crate `due`) call too. The
 // steps are not counted here: a call says how many it did, and whoever has the counters counts them.
 use creek::Answer;
+use creek::Reply;
 use creek::mark::NOBODY;
 use creek::mark::STABLE;
 use creek::mark::TENTATIVE;
@@ -23,14 +24,6 @@ pub struct StepResult {
     pub core: Core,
     pub steps: u32,
     pub answer: Answer,
-}
-
-// A reply that fell due: its request's number, the response and the mark.
-#[repr(C)]
-pub struct DueReply {
-    pub number: Number,
-    pub response: u32,
-    pub mark: u8,
 }
 
 // Undo one step: the first of the rollback list leaves the board, and its registers take their former values.
@@ -160,7 +153,7 @@ pub fn put_on(
     strong: bool,
     word: u64,
     response: u32,
-) -> DueReply
+) -> Reply
     requires { ⌜ at < mostSlots ⌝ }
     ensures { λ r. ⌜ PutOn committed (now (awaiting .entry)) (now (stack .entry)) (now (saved .entry)) (now (responses .entry)) at slot strong
         word response (now (awaiting .exit)) (now (stack .exit)) (now (saved .exit)) (now (responses .exit)) r ⌝ }
@@ -170,18 +163,20 @@ pub fn put_on(
     responses[at] = response;
     let number = numbers::number_of(slot);
     if !store::member_at(awaiting, slot) {
-        return DueReply {
-            number,
+        return Reply {
             response,
+            number,
             mark: NOBODY,
+            refusal: refusal::ACCEPTED,
         };
     }
     let mark = mark_of(strong, at < committed);
     replica::end_waiting(awaiting, number, mark);
-    DueReply {
-        number,
+    Reply {
         response,
+        number,
         mark,
+        refusal: refusal::ACCEPTED,
     }
 }
 

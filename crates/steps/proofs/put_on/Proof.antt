@@ -46,6 +46,7 @@ returns c =
       replied = refl;
       number = numbered .number-of .ensures;
       its-response = refl;
+      refusal = refl;
       mark = rw (sym (here .member-at .ensures) ∙ not-true _ (c .if1 .taken));
       waits = refl;
     }
@@ -63,6 +64,7 @@ returns-2 c =
       replied = refl;
       number = numbered .number-of .ensures;
       its-response = refl;
+      refusal = refl;
       mark = marked .mark-of .ensures ∙ rw (sym (here .member-at .ensures) ∙ not-false _ (asked .if1 .left));
       waits = c .end-waiting .ensures;
     }
