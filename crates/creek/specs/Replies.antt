@@ -15,7 +15,8 @@ use Rattle.request.specs.Asked.{operationOf}
 use Rattle.registers.specs.Effect.{exec, response}
 use Rattle.registers.specs.Replay.{zeroBoard}
 use Rattle.creek.specs.declared.Answer.{Answer}
-use Rattle.lists.specs.Lists.{somePasses}
+use Rattle.creek.specs.declared.Reply.{Reply}
+use Rattle.lists.specs.Lists.{one, somePasses}
 use Rattle.creek.specs.Plan.{Plan, hasNumber, held, made, isCommitted}
 use Rattle.creek.specs.Execution.{registers}
 use Rattle.creek.specs.Book.{Call, invoke, deliver, commit, undo, execute, Book, refusal, isAccepted, accepted}
@@ -50,6 +51,18 @@ done = reply noNumber 0 noMark
 -- a refusal's number with a number of a request, and zeros elsewhere
 abbrev pub refusedWith : ℕ → Number → Answer
 refusedWith k n = record { refusal = k; request = noRequest; number = n; response = 0; mark = noMark }
+
+-- a reply as an answer, with no request
+abbrev pub replyAnswer : Reply → Answer
+replyAnswer r = record { request = noRequest; response = r .response; number = r .number; refusal = r .refusal; mark = r .mark }
+
+-- what an answer says beside its request
+abbrev pub replyIn : Answer → Reply
+replyIn a = record { response = a .response; number = a .number; mark = a .mark; refusal = a .refusal }
+
+-- how many steps an undo or a carry-out with that reply did: one, or none where it was refused
+abbrev pub stepsDone : Reply → ℕ
+stepsDone r = one (eqb (r .refusal) refused.accepted)
 
 -- ---- responses
 

@@ -23,7 +23,7 @@ use Rattle.registers.specs.Rollback.{savedOf, savedIn, restored}
 use Rattle.creek.specs.declared.Answer.{Answer}
 use Rattle.creek.specs.Plan.{isOf}
 use Rattle.creek.specs.Book.{Call, undo, execute}
-use Rattle.creek.specs.Replies.{noMark, reply, awaitingAfter}
+use Rattle.creek.specs.Replies.{replyIn, noMark, reply, awaitingAfter}
 use Rattle.creek.specs.Calls.{Replica, step, answer}
 use Rattle.creek.specs.History.{dueCall, afterDueSteps, idled}
 use Rattle.creek.proofs.ExecutionLaws.{idle-owed}
@@ -34,7 +34,7 @@ use Rattle.replica.specs.State.{State, Called}
 use Rattle.store.specs.Requests.{askedIn, requestAt}
 use Rattle.replica.specs.Promises.{Kept}
 use Rattle.replica.specs.internal.Model.{orderOf, planOf, bookOf, model, savedAt, Inv}
-use Rattle.due.specs.Due.{DueOutcome, noReply, replyIn, isAwaited, dueReplies, mostReplies, padded, repliesOwed, RunDue}
+use Rattle.due.specs.Due.{DueOutcome, noReply, isAwaited, dueReplies, mostReplies, padded, repliesOwed, RunDue}
 use Rattle.due.specs.internal.Parts.{SameJob, RolledBack, ExecutedAll}
 use Rattle.replica.proofs.States.{undoneState, executedState}
 use Rattle.replica.proofs.ModelLaws.{requestOf, topSlot, nextSlot, order-planned, plan-sound, length-order, rollback-first, rollback-none, rollback-length, todo-length, order-next}

@@ -6,7 +6,7 @@ use mathlib.Core.List.{List}
 use lib.ListN.{set, replicate}
 use Rattle.counters.specs.declared.Counters.{Counters}
 use Rattle.counters.specs.Counted.{undosCounted, executionsCounted}
-use Rattle.creek.specs.Replies.{noMark, reply}
+use Rattle.creek.specs.Replies.{replyIn, noMark, reply}
 use Rattle.replica.specs.declared.Core.{Core}
 use Rattle.creek.specs.declared.Reply.{Reply}
 use Rattle.due.specs.declared.DueResult.{DueResult}
@@ -14,7 +14,7 @@ use Rattle.replica.specs.State.{State}
 use Rattle.replica.specs.internal.Cores.{withBoard}
 use Rattle.replica.specs.internal.Model.{Inv}
 use Rattle.steps.specs.Steps.{undoParts, UndoAsks, TopAsks, TakenOff, executeParts, ExecuteAsks}
-use Rattle.due.specs.Due.{DueOutcome, noReply, replyIn, mostReplies, RunDue}
+use Rattle.due.specs.Due.{DueOutcome, noReply, mostReplies, RunDue}
 use Rattle.due.specs.internal.Parts.{ranParts, RolledBack, ExecutedAll, AllUndone, AllExecuted, DueKept}
 use Rattle.replica.proofs.ModelLaws.{top-slot, next-slot}
 use Rattle.steps.proofs.ExecuteLaws.{NextReply}

@@ -9,7 +9,7 @@ use Rattle.lists.specs.Lists.{consIf}
 use Rattle.numbers.specs.Numbers.{mostEvents}
 use Rattle.creek.specs.declared.Answer.{Answer}
 use Rattle.creek.specs.Execution.{isIdle}
-use Rattle.creek.specs.Replies.{noMark, done}
+use Rattle.creek.specs.Replies.{noMark, done, replyIn}
 use Rattle.creek.specs.Calls.{Replica, step, answer}
 use Rattle.creek.specs.History.{dueCall, idled}
 use Rattle.creek.specs.Showing.{owedShown}
@@ -18,10 +18,6 @@ use Rattle.replica.specs.State.{State}
 use Rattle.replica.specs.internal.Model.{model, Inv}
 
 -- ---- the replies
-
--- what an answer says beside its request
-abbrev pub replyIn : Answer → Reply
-replyIn a = record { response = a .response; number = a .number; mark = a .mark; refusal = a .refusal }
 
 -- the reply of zeros
 abbrev pub noReply : Reply

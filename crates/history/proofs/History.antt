@@ -22,7 +22,8 @@ use Rattle.creek.specs.Demand.{Demand3}
 use Rattle.creek.proofs.CallLaws.{answer-refusal, run-book, run-append, answers-append, answers-refusals}
 use Rattle.creek.proofs.Demand.{demand-3}
 use Rattle.replica.specs.State.{State, Opened}
-use Rattle.due.specs.Due.{DueOutcome, noReply, replyIn, isAwaited, dueReplies, mostReplies, repliesOwed, RunDue}
+use Rattle.creek.specs.Replies.{replyIn}
+use Rattle.due.specs.Due.{DueOutcome, noReply, isAwaited, dueReplies, mostReplies, repliesOwed, RunDue}
 use Rattle.creek.specs.declared.Reply.{Reply}
 use Rattle.replica.specs.Promises.{Fresh}
 use Rattle.replica.specs.internal.Model.{model, Inv}

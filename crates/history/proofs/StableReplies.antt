@@ -11,7 +11,7 @@ use Rattle.lists.proofs.AllLaws.{all-anywhere, all-append, all-consIf}
 use Rattle.request.specs.declared.Request.{Request}
 use Rattle.creek.specs.declared.Answer.{Answer}
 use Rattle.creek.specs.Book.{Call, Book, undo, execute}
-use Rattle.creek.specs.Replies.{stableMark, responseIn}
+use Rattle.creek.specs.Replies.{replyIn, stableMark, responseIn}
 use Rattle.creek.specs.Calls.{Replica, fresh, step, answer}
 use Rattle.creek.specs.History.{run, answersTo, dueCall, afterDueSteps, idled, dueCalls}
 use Rattle.creek.specs.internal.Sound.{Sound}
@@ -23,7 +23,7 @@ use Rattle.creek.proofs.SoundLaws.{step-sound, fresh-sound}
 use Rattle.creek.proofs.StableReply.{sound-stable-reply}
 use Rattle.creek.specs.Showing.{owedShown}
 use Rattle.replica.specs.State.{State}
-use Rattle.due.specs.Due.{DueOutcome, noReply, replyIn, isAwaited, dueReplies, mostReplies, repliesOwed, RunDue}
+use Rattle.due.specs.Due.{DueOutcome, noReply, isAwaited, dueReplies, mostReplies, repliesOwed, RunDue}
 use Rattle.creek.specs.declared.Reply.{Reply}
 use Rattle.replica.specs.internal.Model.{model}
 use Rattle.history.specs.History.{Leads}

@@ -20,7 +20,8 @@ use Rattle.creek.specs.History.{answersTo, refusals, acceptedIn, dueCalls, refu
 use Rattle.creek.specs.Showing.{requestsShown, commitsShown, undosShown, executionsShown, owedShown}
 use Rattle.creek.specs.Demand.{mostUndos}
 use Rattle.replica.specs.State.{State, Called}
-use Rattle.due.specs.Due.{DueOutcome, noReply, replyIn, isAwaited, mostReplies, RunDue}
+use Rattle.creek.specs.Replies.{replyIn}
+use Rattle.due.specs.Due.{DueOutcome, noReply, isAwaited, mostReplies, RunDue}
 use Rattle.creek.specs.declared.Reply.{Reply}
 use Rattle.replica.specs.Promises.{Kept}
 use Rattle.replica.specs.internal.Model.{model, Inv}

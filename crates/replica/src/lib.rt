@@ -14,6 +14,7 @@ pub mod showing;
 
 use counters::Counters;
 use creek::Answer;
+use creek::Reply;
 use creek::mark::NOBODY;
 use creek::mark::STABLE;
 use creek::mark::WEAK;
@@ -35,7 +36,7 @@ ghost use Prim.Native.Nat.{min};
 ghost use Rattle.numbers.specs.Numbers.{noNumber};
 ghost use Rattle.sets.specs.Sets.{setOf};
 ghost use Rattle.creek.specs.Calls.{badShop};
-ghost use Rattle.creek.specs.Replies.{refusedWith, reply as replyOf, done as doneOf, awaitingAfter};
+ghost use Rattle.creek.specs.Replies.{refusedWith, reply as replyOf, done as doneOf, replyAnswer, replyIn, stepsDone, awaitingAfter};
 ghost use Rattle.replica.specs.internal.Cores.{firstCore};
 ghost use Rattle.replica.specs.internal.Parts.{FreshKept};
 
@@ -163,6 +164,39 @@ pub fn lower(a: usize, b: usize) -> usize
         return a;
     }
     b
+}
+
+// The reply of a refused call that names no request.
+pub fn refusing(refusal: u8) -> Reply
+    ensures { λ r. ⌜ r ≡ replyIn (refusedWith refusal noNumber) ⌝ }
+{
+    Reply {
+        response: 0,
+        number: numbers::none(),
+        mark: NOBODY,
+        refusal,
+    }
+}
+
+// A reply as an answer, with no request.
+pub fn answer_of(r: Reply) -> Answer
+    ensures { λ a. ⌜ a ≡ replyAnswer r ⌝ }
+{
+    let number = r.number;
+    Answer {
+        request: request::none(),
+        response: r.response,
+        number,
+        refusal: r.refusal,
+        mark: r.mark,
+    }
+}
+
+// How many steps an undo or an execution with that reply did.
+pub fn steps_done(r: Reply) -> u32
+    ensures { λ n. ⌜ n ≡ stepsDone r ⌝ }
+{
+    (r.refusal == refusal::ACCEPTED) as u32
 }
 
 // The answer of a refused call that names no request.

@@ -1,7 +1,9 @@
--- What fresh and the showing calls ask and promise over the parts of a panel that they are lent.
+-- What the calls ask and promise over the parts of a panel that they are lent: any call; then fresh and the showing calls.
 use Prim.Native.Nat.{ℕ}
 use mathlib.Core.Path.{_≡_}
 use mathlib.Core.List.{List}
+use Rattle.creek.specs.declared.Answer.{Answer}
+use Rattle.creek.specs.Book.{Call}
 use Rattle.creek.specs.Calls.{Replica}
 use Rattle.creek.specs.Execution.{registers}
 use Rattle.counters.specs.declared.Counters.{Counters}
@@ -12,8 +14,19 @@ use Rattle.replica.specs.declared.PlacedRequest.{PlacedRequest}
 use Rattle.replica.specs.internal.Model.{model, Inv}
 use Rattle.replica.specs.declared.FreshResult.{FreshResult}
 use Rattle.replica.specs.State.{packed}
-use Rattle.replica.specs.Promises.{Fresh}
+use Rattle.replica.specs.Promises.{Fresh, Kept}
 use Rattle.replica.specs.Shown.{RegisterShown, PlaceShown}
+
+-- ---- any call: `parts`, `before` and `after` put what is lent in the place of a panel's own
+
+-- they are the parts of a panel that came from fresh and the calls
+pub record Asks (parts : State → State) : Type 0 where
+  pub panel : State
+  pub invariant : Inv (parts panel)
+
+-- of every such panel: the call was answered and carried out as `creek` says
+pub record KeptBy (before after : State → State) (call : Call) (answer : Answer) : Type 0 where
+  pub kept : (p : State) → Inv (before p) → Kept (before p) call (record { answer = answer; state = after p })
 
 -- ---- fresh
 
