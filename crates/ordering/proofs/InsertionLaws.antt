@@ -1,12 +1,35 @@
--- Laws of insertion in an array: a turn of the loop that carries elements on, and its end.
-use Prim.Native.Nat.{ℕ, _+_, _≤_, _<_}
+-- Laws of insertion in an array: the place behind the last, a turn of the loop that carries elements on, and its end.
+use Prim.Native.Nat.{ℕ, _+_, _-_, _≤_, _<_}
+use native.Mathlib.Omega.{arith}
 use native.Mathlib.Numerals.{add-one}
-use mathlib.Core.Path.{_≡_}
+use mathlib.Core.Path.{_≡_, refl, ap, _∙_}
+use mathlib.Core.Bool.{Bool, true, false, not}
 use mathlib.Core.List.{List}
 use lib.ListN.{length, take, getD, set}
-use lib.Seq.{take-set-lt, take-suc-set, getD-take, length-take-le}
-use Rattle.lists.specs.Places.{insertAt}
+use lib.Seq.{slice, take-set-lt, take-suc-set, getD-take, length-take-le}
+use Rattle.lists.specs.Places.{insertAt, leading}
+use Rattle.lists.proofs.BoolLaws.{true-not-false}
 use Rattle.lists.proofs.PlaceLaws.{insertAt-carry, insertAt-end}
+use Rattle.lists.proofs.HalvesLaws.{halving-starts, halving-failed, halving-ends}
+use Rattle.ordering.specs.Slots.{comesBefore}
+use Rattle.ordering.specs.Insertion.{PlaceAsks}
+
+-- ---- the place of a request
+
+-- the place of a request that does not come before the last of from..to is behind it
+module _ (clocks order : List ℕ) (from to clock slot : ℕ) (h : PlaceAsks clocks order from to clock slot) (some : from < to)
+    (behind : not (comesBefore clocks clock slot (getD order (to - 1) 0)) ≡ true) where
+  pub place-behind-last : to ≡ from + leading (λ t. not (comesBefore clocks clock slot t)) (slice from to order)
+  place-behind-last = go (comesBefore clocks clock slot (getD order (to - 1) 0)) refl
+    where
+      go : (b : Bool) → comesBefore clocks clock slot (getD order (to - 1) 0) ≡ b
+          → to ≡ from + leading (λ t. not (comesBefore clocks clock slot t)) (slice from to order)
+      go true e = true-not-false behind (ap not e)
+      go false e =
+          let last : to ≡ to - 1 + 1 = omega arith in
+          let starts = halving-starts (comesBefore clocks clock slot) order 0 from to (omega arith) in
+          let ends = halving-failed _ _ _ _ _ (h .split) _ _ starts (to - 1) (omega arith) (omega arith) e in
+          last ∙ halving-ends _ _ _ _ _ _ _ ends (omega arith) (omega (arith, h .order .part))
 
 -- ---- the loop of `insert_at`
 
