@@ -29,7 +29,7 @@ use Rattle.request.proofs.OrderLaws.{before-transitive}
 use Rattle.numbers.proofs.NumberLaws.{sameNumber-self, sameNumber-sym, slot-fits, number-of-slot}
 use Rattle.sets.proofs.SetLaws.{member-join, join-length}
 use Rattle.slots.specs.Slots.{IsSlot, OrderAsks, PartsAsk, comesBefore}
-use Rattle.slots.specs.Insertion.{PlaceAsks, InsertionAsks, Inserted}
+use Rattle.slots.specs.Insertion.{PlaceAsks, placeFor, InsertionAsks, Inserted}
 use Rattle.slots.proofs.SlotLaws.{part-of, same-slot, comes-before-order, common-from}
 use Rattle.creek.specs.Plan.{Plan, order, hasNumber, knownWith, entered}
 use Rattle.creek.specs.Execution.{adjusted}
@@ -342,13 +342,10 @@ module _ (p : State) (x : Request) (inv : Inv p) (new : Enters p x) where
   place-asks s is = rw is record { order = tentative-asks p inv; split = λ i j low up high. split-at i j low high up }
 
   module _ (s at : ℕ) (slot-of : s ≡ slot x)
-      (place : at ≡ p .committed + leading (λ t. not (comesBefore (p .clocks) (x .clock .0) s t)) (tentativeSlots p)) where
+      (place : at ≡ placeFor (p .clocks) (p .order) (p .committed) (p .ordered) (x .clock .0) s) where
     place-is : at ≡ placeOf p x
     unfolding behind
-    place-is =
-        place
-        ∙ ap (λ (s : ℕ). p .committed + leading (λ t. not (comesBefore (p .clocks) (x .clock .0) s t)) (tentativeSlots p))
-        slot-of
+    place-is = place ∙ ap (placeFor (p .clocks) (p .order) (p .committed) (p .ordered) (x .clock .0)) slot-of
 
     pub insertion-asks : InsertionAsks (p .order) (p .ordered) at
     insertion-asks = record { place = omega (arith, place-is, place-most); room = new .room; long = inv .lengths .order }

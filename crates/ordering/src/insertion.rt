@@ -1,12 +1,7 @@
 // The place of a request among tentative ones, and insertion at a place.
 use super::order;
 ghost use mathlib.Core.Path.{_≡_};
-ghost use mathlib.Core.Bool.{not};
-ghost use Prim.Native.Nat.{_+_};
-ghost use lib.Seq.{slice};
-ghost use Rattle.lists.specs.Places.{leading};
-ghost use Rattle.ordering.specs.Slots.{comesBefore};
-ghost use Rattle.ordering.specs.Insertion.{PlaceAsks, InsertionAsks, Inserted};
+ghost use Rattle.ordering.specs.Insertion.{PlaceAsks, placeFor, InsertionAsks, Inserted};
 
 // The place of the request of that clock reading and slot among the places from..to of the order: behind those at the front that it
 // does not come before. Looks at the last of them first, since most requests come behind it; then searches by halves: below `low` it
@@ -20,7 +15,7 @@ pub fn place<'a>(
     slot: u16,
 ) -> usize
     requires { ⌜ PlaceAsks (now clocks) (now order) from to clock slot ⌝ }
-    ensures { λ r. ⌜ r ≡ from + leading (λ t. not (comesBefore (now (clocks .entry)) clock slot t)) (slice from to (now (order .entry))) ⌝ }
+    ensures { λ r. ⌜ r ≡ placeFor (now (clocks .entry)) (now (order .entry)) from to clock slot ⌝ }
 {
     if from < to {
         let last = order[to - 1];
