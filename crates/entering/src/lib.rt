@@ -119,9 +119,8 @@ fn enter<'a>(
     store::join(held, number);
     know(known, x.asked.strong, number);
     store::put_request(clocks, operations, contexts, slot, x);
-    // What is executed agrees with the order up to the place of x.
-    let same = replica::lower(core.executed, at);
-    slots::common_start(stack, core.executed, order, n + 1, same)
+    // What is executed agrees with the order up to the place of x, and x is not executed.
+    replica::lower(core.executed, at)
 }
 
 // The refusals of an invocation after an own request of that event: bad operation, shift full.

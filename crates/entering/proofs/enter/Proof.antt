@@ -1,7 +1,7 @@
 -- `entering::enter` meets its contract.
 use Rattle.replica.specs.State.{State}
 use Rattle.entering.specs.Entering.{deliverParts}
-use Rattle.entering.proofs.EnteringLaws.{slot-is, insertion-asks, start-asks, entered-by}
+use Rattle.entering.proofs.EnteringLaws.{slot-is, insertion-asks, entered-by}
 use borrow.Author.Needs.{needs}
 use Rattle.entering.proofs.enter.Statement.{statement}
 use Rattle.entering.proofs.enter.Tie as tie
@@ -46,28 +46,15 @@ put-request-requires c κs =
 lower-requires : tie.Need-lower-requires
 lower-requires c κs = search needs
 
-add-common-start : tie.Need-add-common-start
-add-common-start c = search needs
-
-common-start-requires : tie.Need-common-start-requires
-common-start-requires c κs =
-    let least = c .before in
-    let put = inserted (after-know least) in
-    let a = start put in
-    start-asks (lent a) (a .args .x) (a .pre .invariant) (a .pre .enters) _ _ (a .pre .its-slot) (a .pre .its-place) _
-    (put .insert-at .ensures) _ (least .lower .ensures)
-
 returns : tie.Need-returns
 returns c =
-    let least = c .before .before in
-    let stored = least .before in
+    let stored = c .before in
     let known = stored .before .before .before .before in
     let a = start (inserted known) in
     record {
       kept = λ p inv enters.
-          entered-by _ (a .args .x) inv enters _ _ (a .pre .its-slot) (a .pre .its-place) _ (inserted known .insert-at .ensures) _
-          (least .lower .ensures) (stored .put-request .ensures) (known .before .before .join .ensures) (known .know .ensures)
-          (c .common-start .ensures);
+          entered-by _ (a .args .x) inv enters _ _ (a .pre .its-slot) (a .pre .its-place) _ (inserted known .insert-at .ensures)
+          (stored .put-request .ensures) (known .before .before .join .ensures) (known .know .ensures) (c .lower .ensures);
     }
 
 pub enter-spec : {M : Type 1} → statement M
@@ -79,6 +66,4 @@ enter-spec =
     know-requires
     put-request-requires
     lower-requires
-    add-common-start
-    common-start-requires
     returns)
