@@ -2,14 +2,14 @@
 use Prim.Native.Nat.{ℕ, _+_, _-_, _≤_, _<_}
 use native.Mathlib.Omega.{arith}
 use native.Mathlib.Numerals.{add-one}
-use mathlib.Core.Path.{_≡_, refl, ap, _∙_}
-use mathlib.Core.Bool.{Bool, true, false, not}
+use mathlib.Core.Path.{_≡_, _∙_}
+use mathlib.Core.Bool.{true, not}
 use mathlib.Core.List.{List}
 use lib.ListN.{length, take, getD, set}
 use lib.Seq.{slice, take-set-lt, take-suc-set, getD-take, length-take-le}
+use borrow.Author.Tests.{not-true}
 use Rattle.lists.specs.Lists.{keep}
 use Rattle.lists.specs.Places.{insertAt}
-use Rattle.lists.proofs.BoolLaws.{true-not-false}
 use Rattle.lists.proofs.PlaceLaws.{insertAt-carry, insertAt-end}
 use Rattle.lists.proofs.HalvesLaws.{halving-starts, halving-failed, halving-ends, passing-behind}
 use Rattle.ordering.specs.Slots.{comesBefore}
@@ -21,15 +21,11 @@ use Rattle.ordering.specs.Insertion.{PlaceAsks, placeFor}
 module _ (clocks order : List ℕ) (from to clock slot : ℕ) (h : PlaceAsks clocks order from to clock slot) (some : from < to)
     (behind : not (comesBefore clocks clock slot (getD order (to - 1) 0)) ≡ true) where
   pub place-behind-last : to ≡ placeFor clocks order from to clock slot
-  place-behind-last = go (comesBefore clocks clock slot (getD order (to - 1) 0)) refl
-    where
-      go : (b : Bool) → comesBefore clocks clock slot (getD order (to - 1) 0) ≡ b → to ≡ placeFor clocks order from to clock slot
-      go true e = true-not-false behind (ap not e)
-      go false e =
-          let last : to ≡ to - 1 + 1 = omega arith in
-          let starts = halving-starts (comesBefore clocks clock slot) order 0 from to (omega arith) in
-          let ends = halving-failed _ _ _ _ _ (h .split) _ _ starts (to - 1) (omega arith) (omega arith) e in
-          last ∙ halving-ends _ _ _ _ _ _ _ ends (omega arith) (omega (arith, h .order .part))
+  place-behind-last =
+      let last : to ≡ to - 1 + 1 = omega arith in
+      let starts = halving-starts (comesBefore clocks clock slot) order 0 from to (omega arith) in
+      let ends = halving-failed _ _ _ _ _ (h .split) _ _ starts (to - 1) (omega arith) (omega arith) (not-true _ behind) in
+      last ∙ halving-ends _ _ _ _ _ _ _ ends (omega arith) (omega (arith, h .order .part))
 
 -- the requests of from..to that another comes before are those from its place on
 pub later-from-place : (clocks order : List ℕ) (from to clock slot : ℕ) → PlaceAsks clocks order from to clock slot
