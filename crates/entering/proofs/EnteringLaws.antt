@@ -6,9 +6,9 @@ use mathlib.Core.Path.{_≡_, refl, sym, ap, subst, _∙_}
 use mathlib.Core.Bool.{Bool, true, false, not, _||_}
 use mathlib.Core.List.{List, map}
 use lib.ListN.{length, take, drop, getD, length-take, length-drop, List·getD-map}
-use lib.Seq.{slice, take-take, getD-take, getD-drop, length-slice}
+use lib.Seq.{take-take, getD-take, getD-drop, length-slice}
 use lib.Dec.{eqb, ltb}
-use borrow.Author.Tests.{eqb-true, eqb-false, ltb-true, ltb-false}
+use borrow.Author.Tests.{eq-eqb, ne-eqb, eqb-true, eqb-false, ltb-true, ltb-false}
 use Rattle.lists.specs.Lists.{one, count, insert, commonStart}
 use Rattle.lists.specs.Places.{All, insertAt, leading}
 use Rattle.lists.proofs.BoolLaws.{true-not-false}
@@ -16,6 +16,7 @@ use Rattle.lists.proofs.ListLaws.{one-false, commonStart-most}
 use Rattle.lists.proofs.AllLaws.{all-weaken, all-take, all-drop, all-insertAt, none-all}
 use Rattle.lists.proofs.MapLaws.{map-take, map-drop, map-insertAt, count-map, leading-map, leading-agree, commonStart-map, map-agree}
 use Rattle.lists.proofs.OrderedLaws.{ordered-at}
+use Rattle.lists.proofs.StartLaws.{commonStart-inserted}
 use Rattle.lists.proofs.PlaceLaws.{leading-most, insert-place, take-insertAt, drop-insertAt, count-insertAt}
 use Rattle.numbers.specs.declared.Clock.{Clock}
 use Rattle.sets.specs.declared.Context.{Context}
@@ -28,9 +29,9 @@ use Rattle.request.specs.Request.{sameRequest}
 use Rattle.request.proofs.OrderLaws.{before-transitive}
 use Rattle.numbers.proofs.NumberLaws.{sameNumber-self, sameNumber-sym, slot-fits, number-of-slot}
 use Rattle.sets.proofs.SetLaws.{member-join, join-length}
-use Rattle.slots.specs.Slots.{IsSlot, OrderAsks, PartsAsk, comesBefore}
-use Rattle.slots.specs.Insertion.{PlaceAsks, InsertionAsks, Inserted}
-use Rattle.slots.proofs.SlotLaws.{part-of, same-slot, comes-before-order, common-from}
+use Rattle.slots.specs.Slots.{IsSlot, OrderAsks, comesBefore}
+use Rattle.slots.specs.Insertion.{PlaceAsks, placeFor, InsertionAsks, Inserted}
+use Rattle.slots.proofs.SlotLaws.{part-of, same-slot, comes-before-order}
 use Rattle.creek.specs.Plan.{Plan, order, hasNumber, knownWith, entered}
 use Rattle.creek.specs.Execution.{adjusted}
 use Rattle.creek.specs.internal.Stack.{stacked}
@@ -43,7 +44,7 @@ use Rattle.store.proofs.RequestLaws.{stored-other, stored-long}
 use Rattle.replica.specs.internal.Model.{orderSlots, boardSlots, orderOf, boardOf, planOf, bookOf, model}
 use Rattle.replica.specs.internal.Model.{Counts, Lengths, Log, Inv}
 use Rattle.entering.specs.Entering.{Enters, OwnSoFar, Entered}
-use Rattle.replica.proofs.ModelLaws.{order-planned, plan-sound, length-order-slots, length-order, order-slot, executed-asks, executed-follows}
+use Rattle.replica.proofs.ModelLaws.{order-planned, plan-sound, length-order-slots, length-order, order-slot, executed-follows}
 use Rattle.replica.proofs.RequestLaws.{tentativeSlots, same-request, count-held}
 use Rattle.replica.proofs.States.{enlarged}
 
@@ -342,48 +343,32 @@ module _ (p : State) (x : Request) (inv : Inv p) (new : Enters p x) where
   place-asks s is = rw is record { order = tentative-asks p inv; split = λ i j low up high. split-at i j low high up }
 
   module _ (s at : ℕ) (slot-of : s ≡ slot x)
-      (place : at ≡ p .committed + leading (λ t. not (comesBefore (p .clocks) (x .clock .0) s t)) (tentativeSlots p)) where
+      (place : at ≡ placeFor (p .clocks) (p .order) (p .committed) (p .ordered) (x .clock .0) s) where
     place-is : at ≡ placeOf p x
     unfolding behind
-    place-is =
-        place
-        ∙ ap (λ (s : ℕ). p .committed + leading (λ t. not (comesBefore (p .clocks) (x .clock .0) s t)) (tentativeSlots p))
-        slot-of
+    place-is = place ∙ ap (placeFor (p .clocks) (p .order) (p .committed) (p .ordered) (x .clock .0)) slot-of
 
     pub insertion-asks : InsertionAsks (p .order) (p .ordered) at
     insertion-asks = record { place = omega (arith, place-is, place-most); room = new .room; long = inv .lengths .order }
 
-    -- what is executed agrees with the order up to there
-    agrees : (order : List ℕ) → Inserted (p .order) (p .ordered) at s order → (k : ℕ) → k ≤ p .executed → k ≤ at
-        → take k (p .stack) ≡ take k order
-    agrees order inserted k low high =
-        let split : at ≡ k + (at - k) = omega arith in
-        sym (take-take k (p .executed) (p .stack) low)
-        ∙ ap (take k) (executed-follows p inv)
-        ∙ take-take k (p .executed) (p .order) low
-        ∙ sym (sym (take-take k (p .ordered + 1) order (omega (arith, place-is, place-most)))
-        ∙ ap (take k) (inserted .first)
-        ∙ ap (λ (n : ℕ). take k (insertAt n s (orderSlots p))) split
-        ∙ take-insertAt k (at - k) s (orderSlots p) (omega (arith, place-is, place-most, length-order-slots p inv))
-        ∙ take-take k (p .ordered) (p .order) (omega (arith, place-is, place-most)))
-
-    module _ (order : List ℕ) (inserted : Inserted (p .order) (p .ordered) at s order) (same : ℕ) (lowest : same ≡ min (p .executed) at) where
-      pub start-asks : PartsAsk (p .stack) (p .executed) order (p .ordered + 1) same
-      start-asks =
-          executed-asks p inv order (p .ordered + 1) same (omega arith) (omega (arith, place-is, place-most)) (omega (arith, new .room))
-          (inserted .long)
-
-      kept-is : same + commonStart eqb (slice same (p .executed) (p .stack)) (slice same (p .ordered + 1) order) ≡ keptStart p order
+    module _ (order : List ℕ) (inserted : Inserted (p .order) (p .ordered) at s order) where
+      -- of the executed list stays what stands before it, since it is not executed
+      kept-is : min (p .executed) at ≡ keptStart p order
       kept-is =
-          common-from (p .stack) order (p .executed) (p .ordered + 1) same (omega arith) (omega (arith, place-is, place-most))
-          (omega (arith, inv .counts, inv .lengths .stack)) (omega (arith, new .room, inserted .long))
-          (agrees order inserted same (omega arith) (omega arith))
+          let started : take (p .executed) (p .stack) ≡ take (p .executed) (orderSlots p) =
+          executed-follows p inv ∙ sym (take-take (p .executed) (p .ordered) (p .order) (inv .counts .done)) in
+          let others = all-weaken (λ t other. ne-eqb t s (λ is. other (is ∙ slot-of))) (orderSlots p) order-others in
+          sym
+          (ap (λ (l : List ℕ). commonStart eqb l (take (p .ordered + 1) order)) started
+          ∙ ap (commonStart eqb (take (p .executed) (orderSlots p))) (inserted .first)
+          ∙ commonStart-inserted eqb (λ t. eq-eqb t t refl) s (p .executed) at (orderSlots p)
+          (omega (arith, inv .counts, length-order-slots p inv)) (all-take _ (p .executed) (orderSlots p) others))
 
       pub entered-by : {clocks operations contexts held known : List ℕ} {k : ℕ}
           → Stored (p .clocks) (p .operations) (p .contexts) s x clocks operations contexts
           → setOf held ≡ join (p .held) (x .number)
           → setOf known ≡ knownWith (p .known) (x .asked .strong) (x .number)
-          → k ≡ same + commonStart eqb (slice same (p .executed) (p .stack)) (slice same (p .ordered + 1) order)
+          → k ≡ min (p .executed) at
           → (awaiting : List ℕ) (events : ℕ) (clock : Clock)
           → Entered p x (setOf awaiting) events clock (enlarged p held known awaiting clocks operations contexts order k events clock)
       entered-by {clocks} {operations} {contexts} stored joined knows k-is awaiting events clock =

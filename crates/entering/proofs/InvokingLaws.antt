@@ -5,6 +5,7 @@ use native.Mathlib.Numerals.{add-one}
 use mathlib.Core.Path.{_≡_, refl, sym, ap, _∙_}
 use mathlib.Core.Bool.{Bool, true, false, _||_, cond}
 use mathlib.Core.List.{List, [], _∷_, map}
+use lib.Seq.{slice}
 use lib.Dec.{leb}
 use borrow.Author.Tests.{leb-false, le-leb, lt-leb}
 use Rattle.lists.specs.Lists.{keep}
@@ -22,8 +23,9 @@ use Rattle.request.specs.Order.{before}
 use Rattle.request.specs.Refusal as refused
 use Rattle.numbers.proofs.NumberLaws.{sameNumber-sound}
 use Rattle.sets.proofs.SetLaws.{member-join, join-length}
-use Rattle.slots.specs.Slots.{IsSlot, comesBefore, without as withoutSlots}
-use Rattle.slots.proofs.SlotLaws.{comes-before-order}
+use Rattle.slots.specs.Slots.{IsSlot, Part, comesBefore, without as withoutSlots}
+use Rattle.slots.specs.Insertion.{PlaceAsks, placeFor}
+use Rattle.slots.proofs.SlotLaws.{part-of, comes-before-order, later-from-place}
 use Rattle.creek.specs.declared.Invocation.{Invocation}
 use Rattle.creek.specs.declared.Answer.{Answer}
 use Rattle.creek.specs.Plan.{lastEvent, lastClock, entered, without, nextNumber, requestWith, later, contextOf, atLeast, made}
@@ -37,9 +39,10 @@ use Rattle.replica.specs.State.{State}
 use Rattle.store.specs.Requests.{requestAt}
 use Rattle.replica.specs.Promises.{Kept}
 use Rattle.replica.specs.internal.Model.{orderSlots, planOf, bookOf, model, Inv}
-use Rattle.entering.specs.Entering.{InvokeRefused, contextFor, requestFor, Enters, OwnSoFar, Entered}
+use Rattle.entering.specs.Entering.{InvokeRefused, contextWithout, requestFor, Enters, OwnSoFar, Entered}
 use Rattle.replica.proofs.ModelLaws.{plan-sound}
 use Rattle.replica.proofs.RequestLaws.{tentativeSlots}
+use Rattle.entering.proofs.EnteringLaws.{place-asks, insertion-asks}
 use Rattle.entering.proofs.EnteringStates.{new-enters}
 use Rattle.replica.proofs.KeptLaws.{kept-refused, kept-accepted}
 
@@ -150,14 +153,42 @@ module _ (p : State) (i : Invocation) (inv : Inv p) (w : ℕ) (told : InvokeRefu
         let event : p .events + 1 ≡ suc (lastEvent (planOf p)) = add-one (p .events) ∙ ap suc (inv .events) in
         λ j. record { panel = p .own; event = eventNo (event j) }
 
-    -- j is the invocation with the reading that it takes
-    module _ (j : Invocation) (raised : j ≡ atLeast (p .clock .0) i) (s : ℕ) (slot-is : s ≡ slotOf (nextOwn p)) (context : Context)
-        (context-is : context ≡ contextFor j (p .known) (p .clocks) s (tentativeSlots p)) where
+    -- a request of its number may enter
+    next-enters : (j : Invocation) → Enters p (asRequest p j emptySet)
+    unfolding made
+    next-enters j = record {
+      number = rw next-is (made-enters .number);
+      absent = rw next-is (made-enters .absent);
+      room = made-enters .room;
+    }
+
+    -- j is the invocation with the reading that it takes, s its slot: its place may be searched for
+    pub next-place-asks : (j : Invocation) (s : ℕ) → s ≡ slotOf (nextOwn p)
+        → PlaceAsks (p .clocks) (p .order) (p .committed) (p .ordered) (j .clock .0) s
+    next-place-asks j s is = place-asks p (asRequest p j emptySet) inv (next-enters j) s is
+
+    -- what stands from there on is a part of the order
+    pub behind-next : (j : Invocation) (s : ℕ) → s ≡ slotOf (nextOwn p)
+        → (at : ℕ) → at ≡ placeFor (p .clocks) (p .order) (p .committed) (p .ordered) (j .clock .0) s → Part (p .order) at (p .ordered)
+    behind-next j s is at place =
+        part-of (p .order) at (p .ordered) (insertion-asks p (asRequest p j emptySet) inv (next-enters j) s at is place .place)
+        (inv .counts .ordered) (inv .lengths .order) (inv .order-slots)
+
+    module _ (j : Invocation) (raised : j ≡ atLeast (p .clock .0) i) (s : ℕ) (slot-is : s ≡ slotOf (nextOwn p))
+        (at : ℕ) (place : at ≡ placeFor (p .clocks) (p .order) (p .committed) (p .ordered) (j .clock .0) s) (context : Context)
+        (context-is : context ≡ contextWithout (j .asked .strong) (p .known) (slice at (p .ordered) (p .order))) where
+      -- the later ones of the tentative requests stand there
+      later-behind : slice at (p .ordered) (p .order) ≡ laterSlots p (j .clock .0) s
+      later-behind =
+          ap (λ (k : ℕ). slice k (p .ordered) (p .order)) place
+          ∙ sym (later-from-place (p .clocks) (p .order) (p .committed) (p .ordered) (j .clock .0) s (next-place-asks j s slot-is))
+
       context-made : context ≡ contextOf (planOf p) j
       unfolding planOf
       context-made =
           context-is
-          ∙ ap (λ (t : ℕ). contextFor j (p .known) (p .clocks) t (tentativeSlots p)) (slot-is ∙ ap slotOf next-is)
+          ∙ ap (contextWithout (j .asked .strong) (p .known))
+          (later-behind ∙ ap (laterSlots p (j .clock .0)) (slot-is ∙ ap slotOf next-is))
           ∙ ap (λ (c : Context). cond (j .asked .strong) c emptySet) (sym (context-at p inv j next-good))
 
       with-context : asRequest p j context ≡ requestWith (planOf p) j (contextOf (planOf p) j)

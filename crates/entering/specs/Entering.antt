@@ -2,10 +2,9 @@
 -- of a panel that they are lent.
 use Prim.Native.Nat.{ℕ, _+_, _<_}
 use mathlib.Core.Path.{_≡_}
-use mathlib.Core.Bool.{true, false, cond}
+use mathlib.Core.Bool.{Bool, true, false, cond}
 use mathlib.Core.List.{List}
 use lib.ListN.{length}
-use Rattle.lists.specs.Lists.{keep}
 use Rattle.numbers.specs.declared.Clock.{Clock}
 use Rattle.numbers.specs.declared.Number.{Number}
 use Rattle.numbers.specs.Numbers.{mostPanels}
@@ -13,7 +12,8 @@ use Rattle.numbers.specs.internal.Slots.{GoodNumber, slotOf}
 use Rattle.sets.specs.declared.Context.{Context}
 use Rattle.sets.specs.Sets.{setOf, emptySet, member}
 use Rattle.request.specs.declared.Request.{Request}
-use Rattle.slots.specs.Slots.{comesBefore, without}
+use Rattle.slots.specs.Slots.{without}
+use Rattle.slots.specs.Insertion.{placeFor}
 use Rattle.creek.specs.declared.Invocation.{Invocation}
 use Rattle.creek.specs.Plan.{Plan, emptyPlan, entered, lastEvent, lastClock, invokeRefusal, deliverRefusal}
 use Rattle.creek.specs.Book.{invoke, deliver, planned}
@@ -32,11 +32,9 @@ use Rattle.replica.specs.internal.Model.{planOf, bookOf, model, Inv}
 pub record InvokeRefused (events : ℕ) (i : Invocation) (w : ℕ) : Type 0 where
   pub word : (a : Plan) → lastEvent a ≡ events → w ≡ invokeRefusal a i
 
--- the context of the request asked for, in that slot, by the clock readings and the slots of the tentative requests: the known set
--- without the later ones, where it is strong
-abbrev pub contextFor : Invocation → Context → List ℕ → ℕ → List ℕ → Context
-contextFor i known clocks slot tentative =
-    cond (i .asked .strong) (without known (keep (comesBefore clocks (i .clock .0) slot) tentative)) emptySet
+-- the context of a request of that strength: where it is strong, the known set without those slots
+abbrev pub contextWithout : Bool → Context → List ℕ → Context
+contextWithout strong known slots = cond strong (without known slots) emptySet
 
 -- the request of that number that i asks for, with that context
 abbrev pub requestFor : Number → Invocation → Context → Request
@@ -90,12 +88,13 @@ abbrev pub deliverParts : State → Core → (held known clocks operations conte
 deliverParts p core held known clocks operations contexts order stack =
     enterParts p core held known (p .awaiting .words) clocks operations contexts order stack
 
--- x, of that slot, may enter a panel with these parts that came from fresh and the calls
-pub record EnterAsks (core : Core) (held known clocks operations contexts order stack : List ℕ) (slot : ℕ) (x : Request) : Type 0 where
+-- x, of that slot and place, may enter a panel with these parts that came from fresh and the calls
+pub record EnterAsks (core : Core) (held known clocks operations contexts order stack : List ℕ) (slot at : ℕ) (x : Request) : Type 0 where
   pub panel : State
   pub invariant : Inv (deliverParts panel core held known clocks operations contexts order stack)
   pub enters : Enters (deliverParts panel core held known clocks operations contexts order stack) x
   pub its-slot : slot ≡ slotOf (x .number)
+  pub its-place : at ≡ placeFor clocks order (core .committed) (core .ordered) (x .clock .0) slot
 
 -- of every such panel: x entered, and `executed` of the executed list stays
 pub record EnterKept (core : Core) (held known clocks operations contexts order stack : List ℕ) (x : Request)

@@ -16,10 +16,10 @@ ghost use mathlib.Core.Path.{_≡_};
 ghost use mathlib.Core.Option.{some};
 ghost use lib.Seq.{slice};
 ghost use Rattle.sets.specs.Sets.{setOf};
-ghost use Rattle.slots.specs.Slots.{OrderAsks};
+ghost use Rattle.slots.specs.Slots.{Part};
 ghost use Rattle.creek.specs.Plan.{knownWith, atLeast, heldRefusal};
 ghost use Rattle.creek.specs.Replies.{spread as spreadAnswer};
-ghost use Rattle.entering.specs.Entering.{InvokeRefused, contextFor, requestFor, judged, EnterAsks, EnterKept};
+ghost use Rattle.entering.specs.Entering.{InvokeRefused, contextWithout, requestFor, judged, EnterAsks, EnterKept};
 ghost use Rattle.entering.specs.Entering.{DeliverAsks, DeliverKept, InvokeAsks, InvokeKept};
 
 // A request is made: it enters as one that is heard does, awaits a reply, and is to be spread to the other panels. One made with a lower
@@ -55,16 +55,16 @@ pub fn invoke<'a>(
         event: EventNo(event),
     };
     let slot = numbers::slot_of(number);
-    let words = *known;
-    let context = context_for(
-        raised,
-        Context { words },
+    let at = slots::place(
         clocks,
         order,
         core.committed,
         core.ordered,
+        raised.clock.0,
         slot,
     );
+    // The later ones of the tentative requests are those from there on.
+    let context = context_for(raised.asked.strong, known, order, at, core.ordered);
     let x = request_for(number, raised, context);
     let executed = enter(
         core,
@@ -76,6 +76,7 @@ pub fn invoke<'a>(
         order,
         stack,
         slot,
+        at,
         x,
     );
     store::join(awaiting, number);
@@ -92,7 +93,7 @@ pub fn invoke<'a>(
     }
 }
 
-// x, whose slot that is, enters at its place of the order, and what is executed behind that place is to be rolled back: how much of the
+// x, whose slot and place of the order these are, enters, and what is executed behind that place is to be rolled back: how much of the
 // executed list stays.
 fn enter<'a>(
     core: Core,
@@ -104,23 +105,22 @@ fn enter<'a>(
     order: &mut [u16; 512],
     stack: &'a [u16; 512],
     slot: u16,
+    at: usize,
     x: Request,
 ) -> usize
-    requires { ⌜ EnterAsks core (now held) (now known) (now clocks) (now operations) (now contexts) (now order) (now stack) slot x ⌝ }
+    requires { ⌜ EnterAsks core (now held) (now known) (now clocks) (now operations) (now contexts) (now order) (now stack) slot at x ⌝ }
     ensures { λ k. ⌜ EnterKept core (now (held .entry)) (now (known .entry)) (now (clocks .entry)) (now (operations .entry))
         (now (contexts .entry)) (now (order .entry)) (now (stack .entry)) x
         (now (held .exit)) (now (known .exit)) (now (clocks .exit)) (now (operations .exit)) (now (contexts .exit)) (now (order .exit)) k ⌝ }
 {
     let n = core.ordered;
     let number = x.number;
-    let at = slots::place(clocks, order, core.committed, n, x.clock.0, slot);
     slots::insert_at(order, n, at, slot);
     store::join(held, number);
     know(known, x.asked.strong, number);
     store::put_request(clocks, operations, contexts, slot, x);
-    // What is executed agrees with the order up to the place of x.
-    let same = replica::lower(core.executed, at);
-    slots::common_start(stack, core.executed, order, n + 1, same)
+    // What is executed agrees with the order up to the place of x, and x is not executed.
+    replica::lower(core.executed, at)
 }
 
 // The refusals of an invocation after an own request of that event: bad operation, shift full.
@@ -147,22 +147,21 @@ fn at_least(last: Clock, i: Invocation) -> Invocation
     Invocation { asked, clock: last }
 }
 
-// The context of the request that i asks for, in that slot: where it is strong, the known set without the later ones of the tentative
-// requests, which stand at the places from..to of the order.
+// The context of a request of that strength: where it is strong, the known set without the requests at the places from..to of the order.
 fn context_for<'a>(
-    i: Invocation,
-    known: Context,
-    clocks: &'a [u32; 512],
+    strong: bool,
+    known: &'a [u64; 8],
     order: &'a [u16; 512],
     from: usize,
     to: usize,
-    slot: u16,
 ) -> Context
-    requires { ⌜ OrderAsks (now clocks) (now order) from to ⌝ }
-    ensures { λ c. ⌜ c ≡ contextFor i known (now (clocks .entry)) slot (slice from to (now (order .entry))) ⌝ }
+    requires { ⌜ Part (now order) from to ⌝ }
+    ensures { λ c. ⌜ c ≡ contextWithout strong (setOf (now (known .entry))) (slice from to (now (order .entry))) ⌝ }
 {
-    if i.asked.strong {
-        return slots::without_later(known, clocks, order, from, to, i.clock.0, slot);
+    if strong {
+        let mut words = *known;
+        slots::take_out(&mut words, order, from, to);
+        return Context { words };
     }
     sets::empty()
 }
@@ -222,6 +221,7 @@ pub fn deliver<'a>(
         let answer = replica::refused(held_refusal(there, x));
         return CallResult { core, answer };
     }
+    let at = slots::place(clocks, order, core.committed, core.ordered, x.clock.0, slot);
     let executed = enter(
         core,
         held,
@@ -232,6 +232,7 @@ pub fn deliver<'a>(
         order,
         stack,
         slot,
+        at,
         x,
     );
     let mut after = core;

@@ -1,16 +1,19 @@
--- Laws of the search by halves: the first place whose element passes a test, in a list where all behind one that passes pass too.
+-- Laws of lists where all behind one that passes a test pass too: the search by halves for the first that passes, and those that pass.
 use Prim.Native.Nat.{ℕ, suc, zero, _+_, _-_, _≤_, _<_}
 use native.Mathlib.Omega.{arith}
-use mathlib.Core.Path.{_≡_, refl, sym, ap}
+use native.Mathlib.Nat.{add-zero}
+use native.Mathlib.Numerals.{add-one}
+use mathlib.Core.Path.{_≡_, refl, sym, ap, _∙_}
 use mathlib.Core.Bool.{Bool, true, false, not}
-use mathlib.Core.List.{List}
+use mathlib.Core.List.{List, _∷_}
 use lib.ListN.{length, getD}
-use lib.Seq.{slice}
+use lib.Seq.{slice, slice-cons, slice-empty}
 use lib.Dec.{ltb}
 use borrow.Author.Tests.{ltb-true, ltb-false}
+use Rattle.lists.specs.Lists.{keep}
 use Rattle.lists.specs.Places.{leading}
 use Rattle.lists.proofs.BoolLaws.{true-not-false}
-use Rattle.lists.proofs.StepLaws.{leading-on, leading-stops, leading-end}
+use Rattle.lists.proofs.StepLaws.{leading-on, leading-stops, leading-end, keep-taken, keep-passed, keep-end}
 
 -- the first place of from..to whose element passes lies in low..high: below low none passes, from high on all do
 pub record Halving {A : Type 0} (p : A → Bool) (l : List A) (d : A) (from to low high : ℕ) : Type 0 where
@@ -82,3 +85,39 @@ halving-ends p l d from to low high h met inside =
     sym (leading-upto (λ x. not (p x)) l d low to inside (omega (arith, h))
     (λ more. ap not (h .above low met more))
     (low - from) from (omega (arith, h .first)) (λ i a b. ap not (h .below i a b)))
+
+-- ---- those that pass
+
+module _ {A : Type 0} (p : A → Bool) (l : List A) (d : A) (to : ℕ) (inside : to ≤ length l) where
+  -- where all of from..to pass, they are kept
+  all-pass : (n from : ℕ) → from + n ≡ to → ((i : ℕ) → from ≤ i → i < to → p (getD l i d) ≡ true)
+      → keep p (slice from to l) ≡ slice from to l
+  all-pass zero from e passes =
+      let end : from ≡ to = omega arith in
+      rw end (keep-end p l to ∙ sym (slice-empty to l))
+  all-pass (suc n) from e passes =
+      keep-taken p l d from to (omega arith) inside (passes from (omega arith) (omega arith))
+      ∙ ap (λ (r : List A). getD l from d ∷ r) (all-pass n (from + 1) (omega arith) (λ i low high. passes i (omega arith) high))
+      ∙ rw (add-one from) (sym (slice-cons from to l d (omega arith) inside))
+
+  -- those of from..to that pass are those behind the ones at the front that fail
+  pub passing-behind : (n from : ℕ) → from + n ≡ to
+      → ((i j : ℕ) → from ≤ i → i ≤ j → j < to → p (getD l i d) ≡ true → p (getD l j d) ≡ true)
+      → keep p (slice from to l) ≡ slice (from + leading (λ x. not (p x)) (slice from to l)) to l
+  passing-behind zero from e split =
+      let end : from ≡ to = omega arith in
+      rw (end, leading-end (λ x. not (p x)) l to, add-zero to) (keep-end p l to ∙ sym (slice-empty to l))
+  passing-behind (suc n) from e split =
+      go (p (getD l from d)) refl (passing-behind n (from + 1) (omega arith) (λ i j low. split i j (omega arith)))
+    where
+      go : (b : Bool) → p (getD l from d) ≡ b
+          → keep p (slice (from + 1) to l) ≡ slice (from + 1 + leading (λ x. not (p x)) (slice (from + 1) to l)) to l
+          → keep p (slice from to l) ≡ slice (from + leading (λ x. not (p x)) (slice from to l)) to l
+      go true f further =
+          let none : from + leading (λ x. not (p x)) (slice from to l) ≡ from =
+          omega (arith, leading-stops (λ x. not (p x)) l d from to (omega arith) inside (ap not f)) in
+          rw none (all-pass (suc n) from e (λ i low high. split from i (omega arith) low high f))
+      go false f further =
+          let more : from + leading (λ x. not (p x)) (slice from to l) ≡ from + 1 + leading (λ x. not (p x)) (slice (from + 1) to l) =
+          omega (arith, leading-on (λ x. not (p x)) l d from to (omega arith) inside (ap not f)) in
+          rw more (keep-passed p l d from to (omega arith) inside f ∙ further)

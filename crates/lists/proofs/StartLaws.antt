@@ -1,5 +1,5 @@
 -- Laws of the start of a list: an element at a place and whether a start reaches it; the common start of two lists.
-use Prim.Native.Nat.{ℕ, zero, suc, _+_, _-_, _≤_, _<_}
+use Prim.Native.Nat.{ℕ, zero, suc, _+_, _-_, _≤_, _<_, min}
 use native.Mathlib.Omega.{arith}
 use mathlib.Core.Path.{_≡_, refl, sym, ap, _∙_}
 use mathlib.Core.Bool.{Bool, true, false, cond}
@@ -9,6 +9,7 @@ use lib.Seq.{slice, getD-take, getD-drop, take-take, take-append-le, take-append
 use lib.Dec.{eqb, leb, ltb, eqb·zero-suc, eqb·suc-suc}
 use borrow.Author.Tests.{leb-true, leb-false, ltb-true, ltb-false, le-leb, lt-leb}
 use Rattle.lists.specs.Lists.{count, somePasses, commonStart}
+use Rattle.lists.specs.Places.{All, insertAt}
 use Rattle.lists.proofs.BoolLaws.{same-test}
 use Rattle.lists.proofs.ListLaws.{one-true, count-append, passes-count, commonStart-most, commonStart-longest}
 
@@ -101,6 +102,16 @@ module _ {A : Type 0} (same : A → A → Bool) (self : (x : A) → same x x ≡
       rw (take-take k n xs low, long) at
       (commonStart-before k (take n xs) (take m ys) (omega arith) (omega (arith, length-take-le m ys second))
       (e ∙ ap (drop k) (sym inside)))
+
+  -- of the first n of a list and of the list with x at place k, where x is none of the n, it ends at the lower of the two
+  pub commonStart-inserted : (x : A) (n k : ℕ) (l : List A) → n ≤ length l → All (λ y. same y x ≡ false) (take n l)
+      → commonStart same (take n l) (insertAt k x l) ≡ min n k
+  unfolding insertAt
+  commonStart-inserted x zero k l h others = omega arith
+  commonStart-inserted x (suc n) k [] h others = absurd (omega arith)
+  commonStart-inserted x (suc n) zero (y ∷ ys) h others = rw (others .0) (omega arith)
+  commonStart-inserted x (suc n) (suc k) (y ∷ ys) h others =
+      rw (self y) (omega (arith, commonStart-inserted x n k ys (omega arith) (others .1)))
 
 -- ---- an element behind a list
 

@@ -1,28 +1,31 @@
 -- Laws of slots: a part of an order, the common start of two lists, room for one more; slots and their numbers, membership by words;
 -- clock order; a set without some slots.
-use Prim.Native.Nat.{ℕ, _+_, _-_, _/_, _%_, _≤_, _<_}
+use Prim.Native.Nat.{ℕ, _+_, _-_, _*_, _/_, _%_, _^_, _≤_, _<_}
 use native.Mathlib.Omega.{arith}
+use native.Mathlib.Nat.{one-mul, zero-mul, mod-eq-of-lt, mod-lt, zero-lt-suc}
+use native.Mathlib.Numerals.{add-one}
 use mathlib.Core.Path.{_≡_, refl, sym, ap, _∙_}
 use mathlib.Core.Bool.{Bool, true, false, cond}
 use mathlib.Core.List.{List, _∷_}
-use lib.ListN.{length, take, getD}
-use lib.Seq.{slice}
+use lib.ListN.{length, take, getD, set}
+use lib.Seq.{slice, slice-cons, slice-empty, set-getD}
+use lib.Bits.{bitXor, xor-zero-r}
+use lib.Pow.{pow-lt}
 use lib.Dec.{eqb, ltb}
-use borrow.Author.Tests.{eq-eqb, ne-eqb, eqb-true, lt-ltb, ltb-true, ltb-false}
-use Rattle.lists.specs.Lists.{one, count, keep, commonStart}
+use borrow.Author.Tests.{eq-eqb, ne-eqb, eqb-true, eqb-false, lt-ltb, ltb-true, ltb-false}
+use Rattle.lists.specs.Lists.{one, count, commonStart}
 use Rattle.lists.specs.Places.{All}
 use Rattle.lists.proofs.BoolLaws.{same-test}
 use Rattle.lists.proofs.ListLaws.{count-all, count-never, pigeonhole}
 use Rattle.lists.proofs.MapLaws.{count-agree}
 use Rattle.lists.proofs.AllLaws.{all-of, all-weaken, all-drop, all-slice-at}
 use Rattle.lists.proofs.StartLaws.{commonStart-from, commonStart-until}
-use Rattle.lists.proofs.StepLaws.{keep-taken, keep-passed, keep-end}
 use Rattle.sets.specs.declared.Context.{Context}
 use Rattle.request.specs.declared.Request.{Request}
 use Rattle.numbers.specs.Numbers.{sameNumber, mostPanels, mostEvents}
 use Rattle.numbers.specs.internal.Slots.{GoodNumber, numberOf, slotOf}
 use Rattle.request.specs.Order.{before}
-use Rattle.sets.specs.Sets.{member, leave}
+use Rattle.sets.specs.Sets.{setOf, bit, wordFor, maskOf, member, leave}
 use Rattle.numbers.proofs.NumberLaws.{sameNumber-sound, sameNumber-self, slot-of-number, number-of-good, number-good}
 use Rattle.request.proofs.OrderLaws.{before-by-slots}
 use Rattle.sets.proofs.SetLaws.{member-is-bit}
@@ -122,18 +125,50 @@ comes-before-order x y clocks t g h number clock =
     let slot : slotOf (y .number) ≡ t = ap slotOf number ∙ slot-of-number t h in
     before-by-slots x y g good ∙ rw (clock, slot)
 
--- ---- a set without the slots that a test keeps, place by place
+-- ---- a set without some slots
 
-module _ (later : ℕ → Bool) (order : List ℕ) (s : Context) (i to : ℕ) (below : i < to) (inside : to ≤ length order) where
-  pub without-taken : later (getD order i 0) ≡ true
-      → without s (keep later (slice i to order)) ≡ without (leave s (numberOf (getD order i 0))) (keep later (slice (i + 1) to order))
+-- the word w less its bit k, by the digit that it has there
+digit-taken : (w k d : ℕ) → k < mostEvents → d ≡ w / 2 ^ k % 2 → (b : Bool) → bit k w ≡ b
+    → bitXor w (d * 2 ^ k % 2 ^ mostEvents) ≡ cond b (bitXor w (2 ^ k)) w
+unfolding bit
+digit-taken w k d small is true e =
+    let set : d ≡ 1 = is ∙ eqb-true _ 1 e in
+    rw (set, one-mul, mod-eq-of-lt (pow-lt {i = k} {j = mostEvents} small))
+digit-taken w k d small is false e =
+    let other = eqb-false (w / 2 ^ k % 2) 1 e in
+    let clear : d ≡ 0 = omega (arith, is, other, mod-lt (w / 2 ^ k) (zero-lt-suc 1)) in
+    rw (clear, zero-mul) (xor-zero-r w)
+
+-- the words less the number of slot t, where it is in them
+slot-taken : (words : List ℕ) (t : ℕ) → IsSlot t → (b : Bool)
+    → let word = getD words (t / mostEvents) 0 in
+    setOf (set words (t / mostEvents) (cond b (bitXor word (2 ^ (t % mostEvents))) word))
+    ≡ cond b (setOf (set words (numberOf t .panel .0) (bitXor (wordFor (setOf words) (numberOf t)) (maskOf (numberOf t))))) (setOf words)
+unfolding numberOf
+slot-taken words t h true =
+    let bits : t % mostEvents + 1 - 1 ≡ t % mostEvents = omega arith in
+    let panel : t / mostEvents % mostPanels ≡ t / mostEvents = omega arith in
+    rw (bits, panel)
+slot-taken words t h false = ap setOf (set-getD words (t / mostEvents) 0)
+
+-- a turn of the loop of `take_out` takes the number of slot t out of the set
+pub taken-out : (words : List ℕ) (t : ℕ) → IsSlot t
+    → let word = getD words (t / mostEvents) 0 in
+    let bit = t % mostEvents in
+    setOf (set words (t / mostEvents) (bitXor word (word / 2 ^ bit % 2 * 2 ^ bit % 2 ^ mostEvents))) ≡ leave (setOf words) (numberOf t)
+unfolding leave inWords
+taken-out words t h =
+    let there = member (setOf words) (numberOf t) in
+    ap (λ (w : ℕ). setOf (set words (t / mostEvents) w))
+    (digit-taken (getD words (t / mostEvents) 0) (t % mostEvents) _ (omega arith) refl there (in-words-member (setOf words) t h))
+    ∙ slot-taken words t h there
+
+-- one slot after the other
+module _ (order : List ℕ) (s : Context) (i to : ℕ) (below : i < to) (inside : to ≤ length order) where
+  pub without-next : without s (slice i to order) ≡ without (leave s (numberOf (getD order i 0))) (slice (i + 1) to order)
   unfolding without
-  without-taken e = ap (without s) (keep-taken later order 0 i to below inside e)
+  without-next = rw (add-one i) (ap (without s) (slice-cons i to order 0 below inside))
 
-  pub without-passed : later (getD order i 0) ≡ false
-      → without s (keep later (slice i to order)) ≡ without s (keep later (slice (i + 1) to order))
-  without-passed e = ap (without s) (keep-passed later order 0 i to below inside e)
-
-pub without-end : (later : ℕ → Bool) (order : List ℕ) (s : Context) (to : ℕ) → without s (keep later (slice to to order)) ≡ s
+pub without-end : (order : List ℕ) (s : Context) (to : ℕ) → without s (slice to to order) ≡ s
 unfolding without
-without-end later order s to = ap (without s) (keep-end later order to)
+without-end order s to = ap (without s) (slice-empty to order)

@@ -1,11 +1,17 @@
 -- The place of a request in an order, and insertion at a place of a list in an array.
 use Prim.Native.Nat.{ℕ, _+_, _<_, _≤_}
 use mathlib.Core.Path.{_≡_}
-use mathlib.Core.Bool.{true}
+use mathlib.Core.Bool.{true, not}
 use mathlib.Core.List.{List}
 use lib.ListN.{length, take, drop, getD}
-use Rattle.lists.specs.Places.{insertAt}
+use lib.Seq.{slice}
+use Rattle.lists.specs.Places.{insertAt, leading}
 use Rattle.ordering.specs.Slots.{mostSlots, OrderAsks, comesBefore}
+
+-- the place of the request of that clock reading and slot among the places from..to of an order: behind those at the front that it does
+-- not come before
+abbrev pub placeFor : List ℕ → List ℕ → (from to clock slot : ℕ) → ℕ
+placeFor clocks order from to clock slot = from + leading (λ t. not (comesBefore clocks clock slot t)) (slice from to order)
 
 -- what the search for the place of a request asks of the places from..to: they can be compared, and once the request comes before one
 -- of them, it comes before all behind it

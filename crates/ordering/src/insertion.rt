@@ -1,15 +1,11 @@
 // The place of a request among tentative ones, and insertion at a place.
 use super::order;
 ghost use mathlib.Core.Path.{_≡_};
-ghost use mathlib.Core.Bool.{not};
-ghost use Prim.Native.Nat.{_+_};
-ghost use lib.Seq.{slice};
-ghost use Rattle.lists.specs.Places.{leading};
-ghost use Rattle.ordering.specs.Slots.{comesBefore};
-ghost use Rattle.ordering.specs.Insertion.{PlaceAsks, InsertionAsks, Inserted};
+ghost use Rattle.ordering.specs.Insertion.{PlaceAsks, placeFor, InsertionAsks, Inserted};
 
 // The place of the request of that clock reading and slot among the places from..to of the order: behind those at the front that it
-// does not come before. Searches by halves: below `low` it comes before none, from `high` on before all.
+// does not come before. Looks at the last of them first, since most requests come behind it; then searches by halves: below `low` it
+// comes before none, from `high` on before all.
 pub fn place<'a>(
     clocks: &'a [u32; 512],
     order: &'a [u16; 512],
@@ -19,8 +15,14 @@ pub fn place<'a>(
     slot: u16,
 ) -> usize
     requires { ⌜ PlaceAsks (now clocks) (now order) from to clock slot ⌝ }
-    ensures { λ r. ⌜ r ≡ from + leading (λ t. not (comesBefore (now (clocks .entry)) clock slot t)) (slice from to (now (order .entry))) ⌝ }
+    ensures { λ r. ⌜ r ≡ placeFor (now (clocks .entry)) (now (order .entry)) from to clock slot ⌝ }
 {
+    if from < to {
+        let last = order[to - 1];
+        if !order::comes_before(clocks, clock, slot, last) {
+            return to;
+        }
+    }
     let mut low = from;
     let mut high = to;
     while low < high {

@@ -1,34 +1,24 @@
-// The known set without the requests that come after another in clock order.
-use super::order;
-use sets::Context;
+// A set of numbers without the requests at some places of an order, as the known set without those that come after a request.
 ghost use mathlib.Core.Path.{_≡_};
 ghost use lib.Seq.{slice};
-ghost use Rattle.lists.specs.Lists.{keep};
-ghost use Rattle.ordering.specs.Slots.{OrderAsks, comesBefore, without};
+ghost use Rattle.sets.specs.Sets.{setOf};
+ghost use Rattle.ordering.specs.Slots.{Part, without};
 
-// The known set without the numbers of those slots at places from..to of the order that the request of that clock reading and slot
-// comes before.
-pub fn without_later<'a>(
-    known: Context,
-    clocks: &'a [u32; 512],
-    order: &'a [u16; 512],
-    from: usize,
-    to: usize,
-    clock: u32,
-    slot: u16,
-) -> Context
-    requires { ⌜ OrderAsks (now clocks) (now order) from to ⌝ }
-    ensures { λ r. ⌜ r ≡ without known (keep (comesBefore (now (clocks .entry)) clock slot) (slice from to (now (order .entry)))) ⌝ }
+const EVENTS: u16 = numbers::MOST_EVENTS as u16;
+
+// Takes the numbers of the slots at places from..to of the order out of the set of these words.
+pub fn take_out<'a>(words: &mut [u64; 8], order: &'a [u16; 512], from: usize, to: usize)
+    requires { ⌜ Part (now order) from to ⌝ }
+    ensures { λ _. ⌜ setOf (now (words .exit)) ≡ without (setOf (now (words .entry))) (slice from to (now (order .entry))) ⌝ }
 {
-    let mut left = known;
     let mut at = from;
     while at < to {
         let t = order[at];
-        if order::comes_before(clocks, clock, slot, t) {
-            let number = numbers::number_of(t);
-            left = joining::leave(left, number);
-        }
+        let panel = (t / EVENTS) as usize;
+        let bit = (t % EVENTS) as u64;
+        let word = words[panel];
+        let there = (word >> bit) % 2;
+        words[panel] = word ^ (there << bit);
         at += 1;
     }
-    left
 }

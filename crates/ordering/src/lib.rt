@@ -5,7 +5,7 @@
 // stands there are slots, as one record of `specs/` with named fields.
 //
 // `order` has clock order by slots, `insertion` the place of a request and insertion there, `common` the common start of two lists,
-// `later` the known set without later requests. The laws for a caller are in `proofs/`.
+// `later` a set of numbers without the requests at some places. The laws for a caller are in `proofs/`.
 pub mod common;
 pub mod insertion;
 pub mod later;
@@ -14,4 +14,4 @@ pub mod order;
 pub use common::common_start;
 pub use insertion::insert_at;
 pub use insertion::place;
-pub use later::without_later;
+pub use later::take_out;

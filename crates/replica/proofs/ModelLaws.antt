@@ -1,5 +1,5 @@
--- How the map looks at a state: the lengths of the standing order and of the board, and what they may be compared with; the last request
--- on the board and the next one to execute; what is to be rolled back and to be executed.
+-- How the map looks at a state: the lengths of the standing order and of the board; the last request on the board and the next one to
+-- execute; what is to be rolled back and to be executed.
 use Prim.Native.Nat.{ℕ, suc, _-_, _≤_, _<_}
 use native.Mathlib.Omega.{arith}
 use mathlib.Core.Path.{_≡_, refl, sym, ap, _∙_}
@@ -14,7 +14,7 @@ use Rattle.numbers.specs.declared.Number.{Number}
 use Rattle.request.specs.declared.Request.{Request}
 use Rattle.numbers.specs.internal.Slots.{slotOf}
 use Rattle.numbers.proofs.NumberLaws.{slot-of-number}
-use Rattle.slots.specs.Slots.{mostSlots, IsSlot, PartsAsk}
+use Rattle.slots.specs.Slots.{IsSlot}
 use Rattle.creek.specs.Plan.{order, hasNumber}
 use Rattle.registers.specs.Replay.{replay}
 use Rattle.creek.specs.Execution.{operations, registers}
@@ -78,18 +78,6 @@ module _ (q : State) (inv : Inv q) where
 
   pub length-board : length (boardOf q) ≡ q .stacked
   length-board = length-map (boardSlots q) (requestOf q) ∙ length-board-slots
-
-  -- the executed list may be compared with the first n of an order from a place on
-  pub executed-asks : (order : List ℕ) (n at : ℕ) → at ≤ q .executed → at ≤ n → n ≤ mostSlots → length order ≡ mostSlots
-      → PartsAsk (q .stack) (q .executed) order n at
-  executed-asks order n at first second inside long = record {
-    first = first;
-    first-inside = omega (arith, inv .counts);
-    first-long = inv .lengths .stack;
-    second = second;
-    second-inside = inside;
-    second-long = long;
-  }
 
   -- the executed list is a start of the standing order
   pub executed-follows : take (q .executed) (q .stack) ≡ take (q .executed) (q .order)

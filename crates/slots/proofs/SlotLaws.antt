@@ -9,6 +9,7 @@ use Rattle.numbers.specs.internal.Slots.{numberOf}
 use Rattle.ordering.specs.Slots.{IsSlot}
 use Rattle.slots.specs.Settlement.{stays}
 pub use Rattle.ordering.proofs.SlotLaws.{part-of, part-slot, same-slot, in-words-member, common-from, common-until, comes-before-order}
+pub use Rattle.ordering.proofs.InsertionLaws.{later-from-place}
 
 -- a slot stays where its number is neither in the context nor the settled one
 pub stays-by-number : (context : Context) (s t : ℕ) → IsSlot s → IsSlot t

@@ -1,2 +1,2 @@
 -- The place of a request and insertion, as `ordering` has them.
-pub use Rattle.ordering.specs.Insertion.{PlaceAsks, InsertionAsks, Inserted}
+pub use Rattle.ordering.specs.Insertion.{PlaceAsks, placeFor, InsertionAsks, Inserted}

@@ -5,7 +5,7 @@
 pub use ordering::common_start;
 pub use ordering::insert_at;
 pub use ordering::place;
-pub use ordering::without_later;
+pub use ordering::take_out;
 pub use settlement::settle_order;
 
 pub mod settlement;

@@ -3,11 +3,11 @@ use borrow.Author.Needs.{needs}
 use Rattle.entering.proofs.context_for.Statement.{statement}
 use Rattle.entering.proofs.context_for.Tie as tie
 
-without-later-requires : tie.Need-without-later-requires
-without-later-requires c κs = search needs
+take-out-requires : tie.Need-take-out-requires
+take-out-requires c κs = search needs
 
 returns : tie.Need-returns
-returns c = rw (c .before .if1 .taken) (c .without-later .ensures)
+returns c = rw (c .before .before .before .if1 .taken) (c .take-out .ensures)
 
 empty-requires : tie.Need-empty-requires
 empty-requires c κs = search needs
@@ -16,4 +16,4 @@ returns-2 : tie.Need-returns-2
 returns-2 c = search needs
 
 pub context-for-spec : {M : Type 1} → statement M
-context-for-spec = tie.close (tie.spec without-later-requires returns empty-requires returns-2)
+context-for-spec = tie.close (tie.spec take-out-requires returns empty-requires returns-2)

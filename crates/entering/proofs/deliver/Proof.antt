@@ -9,6 +9,7 @@ use Rattle.slots.specs.Slots.{IsSlot}
 use Rattle.replica.specs.State.{State}
 use Rattle.replica.specs.internal.Model.{Inv}
 use Rattle.entering.specs.Entering.{judged, Enters, deliverParts}
+use Rattle.entering.proofs.EnteringLaws.{place-asks}
 use Rattle.entering.proofs.DeliveringLaws.{judged-good, kept-judged, kept-held, heard-enters, kept-heard}
 use borrow.Author.Needs.{needs}
 use Rattle.entering.proofs.deliver.Statement.{statement}
@@ -19,14 +20,11 @@ use Rattle.entering.proofs.deliver.Tie as tie
 abbrev then-2 : tie.After-refused2 → tie.Then2
 then-2 c = c .before .before .before .before .before .before
 
-abbrev else-2-from-after-enter-arg6 : tie.After-enter-arg6 → tie.Else2
-else-2-from-after-enter-arg6 c = c .before .before .before .before .before .before
+abbrev placed : tie.After-enter-arg6 → tie.After-place
+placed c = c .before .before .before .before .before .before
 
-abbrev else-2-from-after-struct-known : tie.After-struct-known → tie.Else2
-else-2-from-after-struct-known c = c .before .before .before .before .before .before .before .before
-
-abbrev else-2-from-after-enter : tie.After-enter → tie.Else2
-else-2-from-after-enter c = c .before .before .before .before .before .before .before
+abbrev unheld : tie.After-place → tie.Else2
+unheld c = c .before .before .before
 
 -- ---- the places of the call
 
@@ -102,9 +100,18 @@ returns-2 c =
           (slot .slot-of .ensures) _ (c .before .before .request-at .ensures) _ _ (c .before .held-refusal .ensures) (c .refused2 .ensures);
     }
 
+place-requires : tie.Need-place-requires
+place-requires c κs =
+    let else = c .before .before in
+    let slot = slotted (else .before) in
+    let a = start slot in
+    place-asks (lent a (a .pre .panel)) (a .args .x) (a .pre .invariant) (enters else (a .pre .panel) (a .pre .invariant)) _
+    (slot .slot-of .ensures)
+
 enter-requires : tie.Need-enter-requires
 enter-requires c κs =
-    let else = else-2-from-after-enter-arg6 c in
+    let at = placed c in
+    let else = unheld at in
     let slot = slotted (else .before) in
     let a = start slot in
     record {
@@ -112,11 +119,12 @@ enter-requires c κs =
       invariant = a .pre .invariant;
       enters = enters else (a .pre .panel) (a .pre .invariant);
       its-slot = slot .slot-of .ensures;
+      its-place = at .place .ensures;
     }
 
 add-after : tie.Need-add-after
 add-after c =
-    let else = else-2-from-after-struct-known c in
+    let else = unheld (placed (c .before .before)) in
     let a = start (slotted (else .before)) in
     omega (arith, enters else (a .pre .panel) (a .pre .invariant) .room)
 
@@ -126,7 +134,7 @@ done-requires c κs = search needs
 returns-3 : tie.Need-returns-3
 returns-3 c =
     let entered = c .before .before in
-    let else = else-2-from-after-enter entered in
+    let else = unheld (placed (entered .before)) in
     let slot = slotted (else .before) in
     let a = start slot in
     record {
@@ -149,6 +157,7 @@ deliver-spec =
     held-refusal-requires
     refused-requires-2
     returns-2
+    place-requires
     enter-requires
     add-after
     done-requires

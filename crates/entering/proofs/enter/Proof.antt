@@ -1,7 +1,7 @@
 -- `entering::enter` meets its contract.
 use Rattle.replica.specs.State.{State}
 use Rattle.entering.specs.Entering.{deliverParts}
-use Rattle.entering.proofs.EnteringLaws.{slot-is, place-asks, insertion-asks, start-asks, entered-by}
+use Rattle.entering.proofs.EnteringLaws.{slot-is, insertion-asks, entered-by}
 use borrow.Author.Needs.{needs}
 use Rattle.entering.proofs.enter.Statement.{statement}
 use Rattle.entering.proofs.enter.Tie as tie
@@ -13,14 +13,11 @@ after-know c = c .before .before .before .before .before
 
 -- ---- the places of the call
 
-abbrev start : tie.After-place → tie.Start
-start c = c .before .before .before .before
-
 abbrev inserted : tie.After-know → tie.After-insert-at
 inserted c = c .before .before .before .before
 
-abbrev placed : tie.After-know → tie.After-place
-placed c = inserted c .before .before
+abbrev start : tie.After-insert-at → tie.Start
+start c = c .before .before .before
 
 -- a panel with the parts lent
 abbrev lent : tie.Start → State
@@ -30,15 +27,10 @@ lent a =
 
 -- ---- what the function needs
 
-place-requires : tie.Need-place-requires
-place-requires c κs =
-    let a = c .before .before .before in
-    place-asks (lent a) (a .args .x) (a .pre .invariant) (a .pre .enters) (a .args .slot) (a .pre .its-slot)
-
 insert-at-requires : tie.Need-insert-at-requires
 insert-at-requires c κs =
-    let a = start (c .before) in
-    insertion-asks (lent a) (a .args .x) (a .pre .invariant) (a .pre .enters) _ _ (a .pre .its-slot) (c .before .place .ensures)
+    let a = c .before .before in
+    insertion-asks (lent a) (a .args .x) (a .pre .invariant) (a .pre .enters) _ _ (a .pre .its-slot) (a .pre .its-place)
 
 join-requires : tie.Need-join-requires
 join-requires c κs = search needs
@@ -48,47 +40,30 @@ know-requires c κs = search needs
 
 put-request-requires : tie.Need-put-request-requires
 put-request-requires c κs =
-    let a = start (placed (c .before .before .before)) in
+    let a = start (inserted (c .before .before .before)) in
     (rw (a .pre .its-slot) (slot-is (lent a) (a .args .x) (a .pre .invariant) (a .pre .enters)), a .pre .invariant .lengths .requests)
 
 lower-requires : tie.Need-lower-requires
 lower-requires c κs = search needs
 
-add-common-start : tie.Need-add-common-start
-add-common-start c = search needs
-
-common-start-requires : tie.Need-common-start-requires
-common-start-requires c κs =
-    let least = c .before in
-    let at = placed (after-know least) in
-    let a = start at in
-    start-asks (lent a) (a .args .x) (a .pre .invariant) (a .pre .enters) _ _ (a .pre .its-slot) (at .place .ensures) _
-    (inserted (after-know least) .insert-at .ensures) _ (least .lower .ensures)
-
 returns : tie.Need-returns
 returns c =
-    let least = c .before .before in
-    let stored = least .before in
+    let stored = c .before in
     let known = stored .before .before .before .before in
-    let at = placed known in
-    let a = start at in
+    let a = start (inserted known) in
     record {
       kept = λ p inv enters.
-          entered-by _ (a .args .x) inv enters _ _ (a .pre .its-slot) (at .place .ensures) _ (inserted known .insert-at .ensures) _
-          (least .lower .ensures) (stored .put-request .ensures) (known .before .before .join .ensures) (known .know .ensures)
-          (c .common-start .ensures);
+          entered-by _ (a .args .x) inv enters _ _ (a .pre .its-slot) (a .pre .its-place) _ (inserted known .insert-at .ensures)
+          (stored .put-request .ensures) (known .before .before .join .ensures) (known .know .ensures) (c .lower .ensures);
     }
 
 pub enter-spec : {M : Type 1} → statement M
 enter-spec =
     tie.close
     (tie.spec
-    place-requires
     insert-at-requires
     join-requires
     know-requires
     put-request-requires
     lower-requires
-    add-common-start
-    common-start-requires
     returns)

@@ -6,9 +6,9 @@ use Rattle.numbers.specs.internal.Slots.{slotOf}
 use Rattle.creek.specs.Replies.{spread}
 use Rattle.replica.specs.State.{State}
 use Rattle.replica.specs.internal.Model.{Inv}
+use Rattle.slots.specs.Insertion.{placeFor}
 use Rattle.entering.specs.Entering.{Enters, enterParts}
-use Rattle.entering.proofs.EnteringLaws.{tentative-asks}
-use Rattle.entering.proofs.InvokingLaws.{kept-asked, events-left, asked-enters, kept-made}
+use Rattle.entering.proofs.InvokingLaws.{kept-asked, events-left, next-place-asks, behind-next, asked-enters, kept-made}
 use borrow.Author.Needs.{needs}
 use Rattle.entering.proofs.invoke.Statement.{statement}
 use Rattle.entering.proofs.invoke.Tie as tie
@@ -34,9 +34,13 @@ raised c = c .before .before .before
 abbrev start : tie.After-slot-of → tie.Start
 start c = raised c .before .before .before
 
--- where the slot is known, from where the context is
-abbrev slotted : tie.After-context-for → tie.After-slot-of
-slotted c = c .before .before .before .before
+-- where the slot is known, from where the place is
+abbrev slotted : tie.After-place → tie.After-slot-of
+slotted c = c .before .before .before
+
+-- where the place is known, from where the context is
+abbrev placed : tie.After-context-for → tie.After-place
+placed c = c .before .before .before
 
 -- a panel with the parts lent
 abbrev lent : tie.Start → State → State
@@ -46,15 +50,17 @@ lent a p =
 
 -- ---- what is known there
 
-enters : (c : tie.After-request-for) (p : State) → let a = start (slotted (c .before)) in Inv (lent a p) → Enters (lent a p) (c .request-for .result)
+enters : (c : tie.After-request-for) (p : State) → let a = start (slotted (placed (c .before))) in
+    Inv (lent a p) → Enters (lent a p) (c .request-for .result)
 enters c p inv =
     let asked = c .before in
-    let slot = slotted asked in
+    let at = placed asked in
+    let slot = slotted at in
     let else = raised slot .before in
     let a = start slot in
     subst (Enters (lent a p)) (sym (c .request-for .ensures))
     (asked-enters (lent a p) (a .args .i) inv _ (else .before .ask .ensures) (else .if1 .left) _ (raised slot .at-least .ensures) _
-    (slot .slot-of .ensures) _ (asked .context-for .ensures))
+    (slot .slot-of .ensures) _ (at .place .ensures) _ (asked .context-for .ensures))
 
 -- ---- what the function needs
 
@@ -83,10 +89,22 @@ add-event c =
 slot-of-requires : tie.Need-slot-of-requires
 slot-of-requires c κs = search needs
 
+place-requires : tie.Need-place-requires
+place-requires c κs =
+    let slot = c .before .before in
+    let else = raised slot .before in
+    let a = start slot in
+    next-place-asks (lent a (a .pre .panel)) (a .args .i) (a .pre .invariant) _ (else .before .ask .ensures) (else .if1 .left)
+    (raised slot .at-least .result) _ (slot .slot-of .ensures)
+
 context-for-requires : tie.Need-context-for-requires
 context-for-requires c κs =
-    let a = start (c .before .before .before) in
-    tentative-asks (lent a (a .pre .panel)) (a .pre .invariant)
+    let at = c .before .before in
+    let slot = slotted at in
+    let else = raised slot .before in
+    let a = start slot in
+    behind-next (lent a (a .pre .panel)) (a .args .i) (a .pre .invariant) _ (else .before .ask .ensures) (else .if1 .left)
+    (raised slot .at-least .result) _ (slot .slot-of .ensures) _ (at .place .ensures)
 
 request-for-requires : tie.Need-request-for-requires
 request-for-requires c κs = search needs
@@ -94,13 +112,17 @@ request-for-requires c κs = search needs
 enter-requires : tie.Need-enter-requires
 enter-requires c κs =
     let made = after-request-for-from-after-enter-arg6 c in
-    let slot = slotted (made .before) in
+    let at = placed (made .before) in
+    let slot = slotted at in
     let a = start slot in
     record {
       panel = lent a (a .pre .panel);
       invariant = a .pre .invariant;
       enters = enters made (a .pre .panel) (a .pre .invariant);
       its-slot = slot .slot-of .ensures ∙ ap (λ (x : Request). slotOf (x .number)) (sym (made .request-for .ensures));
+      its-place = at .place .ensures
+          ∙ ap (λ (x : Request). placeFor (a .args .clocks .now) (a .args .order .now) (a .args .core .committed) (a .args .core .ordered)
+          (x .clock .0) (slot .slot-of .result)) (sym (made .request-for .ensures));
     }
 
 join-requires : tie.Need-join-requires
@@ -109,7 +131,7 @@ join-requires c κs = search needs
 add-after : tie.Need-add-after
 add-after c =
     let made = after-request-for-from-after-struct-known2 c in
-    let a = start (slotted (made .before)) in
+    let a = start (slotted (placed (made .before))) in
     omega (arith, enters made (a .pre .panel) (a .pre .invariant) .room)
 
 spread-requires : tie.Need-spread-requires
@@ -121,13 +143,15 @@ returns-2 c =
     let entered = waits .before .before in
     let made = after-request-for-from-after-enter entered in
     let asked = made .before in
-    let slot = slotted asked in
+    let at = placed asked in
+    let slot = slotted at in
     let else = slot .before .before .before .before in
     let a = start slot in
     record {
       kept = λ p inv.
           kept-made (lent a p) (a .args .i) inv _ (else .before .ask .ensures) (else .if1 .left) _ (raised slot .at-least .ensures) _
-          (slot .slot-of .ensures) _ (asked .context-for .ensures) _ (made .request-for .ensures) _ _ (waits .join .ensures)
+          (slot .slot-of .ensures) _ (at .place .ensures) _ (asked .context-for .ensures) _ (made .request-for .ensures) _ _
+          (waits .join .ensures)
           (entered .enter .ensures .kept (lent a p) inv (enters made p inv) _ _ _) _ (c .spread .ensures);
     }
 
@@ -141,6 +165,7 @@ invoke-spec =
     at-least-requires
     add-event
     slot-of-requires
+    place-requires
     context-for-requires
     request-for-requires
     enter-requires
