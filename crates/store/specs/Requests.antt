@@ -6,6 +6,8 @@ use lib.ListN.{length, getD, set}
 use lib.Seq.{sets, slice}
 use lib.Dec.{eqb}
 use Rattle.lists.specs.Lists.{one}
+use Rattle.numbers.specs.declared.Clock.{Clock}
+use Rattle.numbers.specs.declared.Number.{Number}
 use Rattle.sets.specs.declared.Context.{Context}
 use Rattle.request.specs.declared.Asked.{Asked}
 use Rattle.request.specs.declared.Request.{Request}
@@ -58,6 +60,10 @@ pub record WordAs (a : Asked) (w : ℕ) : Type 0 where
 -- the context at slot s: a word for each panel
 unfoldable pub contextAt : List ℕ → ℕ → Context
 contextAt contexts s = setOf (slice (mostPanels * s) (mostPanels * s + mostPanels) contexts)
+
+-- the request of that number, clock reading and asking, with the context in those words
+abbrev pub requestOf : Number → Clock → Asked → List ℕ → Request
+requestOf n clock asked words = record { number = n; clock = clock; asked = asked; context = setOf words }
 
 -- the request at slot s, which has the slot's number
 unfoldable pub requestAt : List ℕ → List ℕ → List ℕ → ℕ → Request

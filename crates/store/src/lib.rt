@@ -11,6 +11,7 @@ pub use members::join;
 pub use members::leave;
 pub use members::member;
 pub use members::member_at;
+pub use members::names_from;
 pub use requests::asked_at;
 pub use requests::context_at;
 pub use requests::put_request;

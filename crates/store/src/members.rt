@@ -1,8 +1,13 @@
 // Sets of numbers in lent words, changed in place: `join` and `leave` write one word. They are the sets of the crate `sets`.
 use numbers::Number;
 ghost use mathlib.Core.Path.{_≡_};
+ghost use lib.ListN.{length};
+ghost use Rattle.numbers.specs.Numbers.{mostPanels};
 ghost use Rattle.numbers.specs.internal.Slots.{numberOf};
-ghost use Rattle.sets.specs.Sets.{setOf, member as memberOf, join as joined, leave as left};
+ghost use Rattle.sets.specs.Sets.{setOf, namesFrom, member as memberOf, join as joined, leave as left};
+
+// A word for each panel.
+const WORDS: usize = numbers::MOST_PANELS as usize;
 
 // Whether n is in the set.
 pub fn member(words: &[u64; 8], n: Number) -> bool
@@ -30,6 +35,22 @@ pub fn member_at(words: &[u64; 8], slot: u16) -> bool
     let bit = (slot % EVENTS) as u64;
     let word = words[panel];
     (word >> bit) % 2 == 1
+}
+
+// Whether the set holds a number of a panel not below `panels`.
+pub fn names_from(words: &[u64; 8], panels: u8) -> bool
+    requires { ⌜ length (now words) ≡ mostPanels ⌝ }
+    ensures { λ r. ⌜ r ≡ namesFrom panels (setOf (now (words .entry))) ⌝ }
+{
+    let mut i = panels as usize;
+    while i < WORDS {
+        let word = words[i];
+        if word != 0 {
+            return true;
+        }
+        i += 1;
+    }
+    false
 }
 
 // Puts n into the set.

@@ -8,8 +8,9 @@ ghost use Prim.Native.Nat.{_*_};
 ghost use lib.ListN.{length, getD};
 ghost use lib.Seq.{sets};
 ghost use Rattle.numbers.specs.Numbers.{mostPanels};
+ghost use Rattle.numbers.specs.internal.Slots.{numberOf};
 ghost use Rattle.slots.specs.Slots.{IsSlot};
-ghost use Rattle.store.specs.Requests.{askedIn, contextAt, requestAt, mostWords, WordAs, Long, Stored};
+ghost use Rattle.store.specs.Requests.{askedIn, contextAt, requestOf, requestAt, mostWords, WordAs, Long, Stored};
 
 // One past the greatest number in eight bits.
 const BYTE: u64 = 256;
@@ -104,37 +105,37 @@ fn word_of(a: Asked) -> u64
     code + UNIT_R * r + UNIT_Q * q + UNIT_STRENGTH * strength + UNIT_AMOUNT * amount
 }
 
-// Puts a context at a slot.
-fn put_context(contexts: &mut [u64; 4096], slot: usize, c: Context)
-    requires { ⌜ IsSlot slot ⌝ }
-    ensures { λ _. ⌜ now (contexts .exit) ≡ sets (now (contexts .entry)) (mostPanels * slot) (c .words) ⌝ }
+// Puts the words of a context at a slot.
+fn put_words<'a>(contexts: &mut [u64; 4096], slot: usize, words: &'a [u64; 8])
+    requires { ⌜ IsSlot slot × (length (now words) ≡ mostPanels) ⌝ }
+    ensures { λ _. ⌜ now (contexts .exit) ≡ sets (now (contexts .entry)) (mostPanels * slot) (now (words .entry)) ⌝ }
 {
     let at = WORDS * slot;
     let mut i = 0;
     while i < WORDS {
-        let word = c.words[i];
+        let word = words[i];
         contexts[at + i] = word;
         i += 1;
     }
 }
 
-// Puts a request at a slot.
-pub fn put_request(
+// Puts a request at its slot: its clock reading, what it asks for, and the words of its context.
+pub fn put_request<'a>(
     clocks: &mut [u32; 512],
     operations: &mut [u64; 512],
     contexts: &mut [u64; 4096],
     slot: u16,
-    x: Request,
+    clock: Clock,
+    asked: Asked,
+    words: &'a [u64; 8],
 )
-    requires { ⌜ IsSlot slot × Long (now clocks) (now operations) (now contexts) ⌝ }
-    ensures { λ _. ⌜ Stored (now (clocks .entry)) (now (operations .entry)) (now (contexts .entry)) slot x
-        (now (clocks .exit)) (now (operations .exit)) (now (contexts .exit)) ⌝ }
+    requires { ⌜ IsSlot slot × Long (now clocks) (now operations) (now contexts) × (length (now words) ≡ mostPanels) ⌝ }
+    ensures { λ _. ⌜ Stored (now (clocks .entry)) (now (operations .entry)) (now (contexts .entry)) slot
+        (requestOf (numberOf slot) clock asked (now (words .entry))) (now (clocks .exit)) (now (operations .exit)) (now (contexts .exit)) ⌝ }
 {
     let s = slot as usize;
-    let clock = x.clock.0;
-    let word = word_of(x.asked);
-    let context = x.context;
-    clocks[s] = clock;
+    let word = word_of(asked);
+    clocks[s] = clock.0;
     operations[s] = word;
-    put_context(contexts, s, context);
+    put_words(contexts, s, words);
 }

@@ -1,15 +1,9 @@
 -- `put_request` meets its contract: one store for the clock and one for the word, and the words of the context.
-use lib.ListN.{length}
-use mathlib.Core.Path.{_≡_, refl}
+use mathlib.Core.Path.{refl}
 use borrow.Author.Needs.{needs}
-use Rattle.numbers.specs.Numbers.{mostPanels}
 use Rattle.store.proofs.RequestLaws.{stored}
 use Rattle.store.proofs.requests.put_request.Statement.{statement}
 use Rattle.store.proofs.requests.put_request.Tie as tie
-
--- the type of the context's array says how many words there are
-count : (c : tie.Start) → length (c .args .x .context .words) ≡ mostPanels
-count c = search needs
 
 word-of-requires : tie.Need-word-of-requires
 word-of-requires c κs = search needs
@@ -26,13 +20,13 @@ mul-operations c = search needs
 element-write-operations : tie.Need-element-write-operations
 element-write-operations c = search needs
 
-put-context-requires : tie.Need-put-context-requires
-put-context-requires c κs = search needs
+put-words-requires : tie.Need-put-words-requires
+put-words-requires c κs = search needs
 
 returns : tie.Need-returns
 returns c =
-    let s = c .before .before .before .before in
-    stored (s .args .x) (s .pre .0) (s .pre .1) (c .before .before .before .word-of .ensures) (count s) refl refl (c .put-context .ensures)
+    let s = c .before .before .before in
+    stored _ (s .pre .0) (s .pre .1) (c .before .before .word-of .ensures) (s .pre .2) refl refl (c .put-words .ensures)
 
 pub put-request-spec : {M : Type 1} → statement M
 put-request-spec =
@@ -43,5 +37,5 @@ put-request-spec =
     element-write-clocks
     mul-operations
     element-write-operations
-    put-context-requires
+    put-words-requires
     returns)

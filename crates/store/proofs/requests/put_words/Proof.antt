@@ -1,4 +1,4 @@
--- `put_context` meets its contract: storing the words that are left gives them all.
+-- `put_words` meets its contract: storing the words that are left gives them all.
 use Prim.Native.Nat.{ℕ, _≤_, _+_, _-_, _*_}
 use native.Mathlib.Omega.{arith}
 use mathlib.Core.Path.{_≡_, sym, ap, _∙_}
@@ -8,18 +8,18 @@ use lib.Seq.{sets}
 use borrow.Author.Needs.{needs}
 use Rattle.numbers.specs.Numbers.{mostPanels}
 use Rattle.store.proofs.SliceLaws.{store-on}
-use Rattle.store.proofs.requests.put_context.Statement.{statement}
-use Rattle.store.proofs.requests.put_context.Tie as tie
+use Rattle.store.proofs.requests.put_words.Statement.{statement}
+use Rattle.store.proofs.requests.put_words.Tie as tie
 
 abbrev Inv-loop : tie.InvT-loop
-Inv-loop contexts₀ slot c at i₀ contexts i =
-    (i ≤ mostPanels) × (sets contexts (at + i) (drop i (c .words)) ≡ sets contexts₀ at (c .words))
+Inv-loop contexts₀ slot words at i₀ contexts i =
+    (i ≤ mostPanels) × (sets contexts (at + i) (drop i words) ≡ sets contexts₀ at words)
 
 abbrev μ-loop : tie.MeasureT-loop
-μ-loop contexts₀ slot c at i₀ contexts i = mostPanels - i
+μ-loop contexts₀ slot words at i₀ contexts i = mostPanels - i
 
 -- the type of the context's array says how many words there are
-count : (c : tie.Start Inv-loop μ-loop) → length (c .args .t3 .words) ≡ mostPanels
+count : (c : tie.Start Inv-loop μ-loop) → length (c .args .words .now) ≡ mostPanels
 count c = search needs
 
 mul-at : tie.Need-mul-at Inv-loop μ-loop
@@ -29,7 +29,7 @@ loop-holds : tie.Need-loop-holds Inv-loop μ-loop
 loop-holds c =
     let at = mostPanels * c .args .slot in
     let first : at + 0 ≡ at = omega arith in
-    (omega arith, ap (λ (k : ℕ). sets (c .args .contexts .now) k (c .args .t3 .words)) first)
+    (omega arith, ap (λ (k : ℕ). sets (c .args .contexts .now) k (c .args .words .now)) first)
 
 mul-word : tie.Need-mul-word Inv-loop μ-loop
 mul-word c = search needs
@@ -56,18 +56,18 @@ loop-again : tie.Need-loop-again Inv-loop μ-loop
 loop-again c =
     let v = c .before .before .loop in
     let a = c .before .before .before in
-    let more = store-on (mostPanels * a .args .slot) (v .i) (v .contexts) (a .args .t3 .words) (omega (arith, count a)) in
+    let more = store-on (mostPanels * a .args .slot) (v .i) (v .contexts) (a .args .words .now) (omega (arith, count a)) in
     (omega arith, more ∙ v .inv .1)
 
 returns : tie.Need-returns Inv-loop μ-loop
 returns c =
     let v = c .before .loop in
     let a = c .before .before in
-    let none : drop (v .i) (a .args .t3 .words) ≡ [] = drop-of-length-le (a .args .t3 .words) {i = v .i} (omega (arith, count a)) in
+    let none : drop (v .i) (a .args .words .now) ≡ [] = drop-of-length-le (a .args .words .now) {i = v .i} (omega (arith, count a)) in
     ap (sets (v .contexts) (mostPanels * a .args .slot + v .i)) (sym none) ∙ v .inv .1
 
-pub put-context-spec : {M : Type 1} → statement M
-put-context-spec =
+pub put-words-spec : {M : Type 1} → statement M
+put-words-spec =
     tie.close
     (tie.spec
     Inv-loop
