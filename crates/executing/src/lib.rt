@@ -1,7 +1,7 @@
 // Executing an operation on the 64 registers, as `exec` and `response` of `effects` say.
 //
-// Every function takes any operation that its contract lets in; `execute` takes any at all: one that names a register over 63 changes
-// nothing and responds 0. `set_all` and `off_board` serve rolling back in `registers`, too.
+// Every function takes any operation that its contract lets in; `execute` and `execute_due` take any at all: one that names a register
+// over 63 changes nothing and responds 0. `set_all` and `off_board` serve rolling back in `registers`, too.
 use request::Operation;
 use request::operations;
 ghost use Prim.Native.Nat.{_+_, _-_, min};
