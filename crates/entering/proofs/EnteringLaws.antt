@@ -19,6 +19,7 @@ use Rattle.lists.proofs.OrderedLaws.{ordered-at}
 use Rattle.lists.proofs.StartLaws.{commonStart-inserted}
 use Rattle.lists.proofs.PlaceLaws.{leading-most, insert-place, take-insertAt, drop-insertAt, count-insertAt}
 use Rattle.numbers.specs.declared.Clock.{Clock}
+use Rattle.numbers.specs.declared.Number.{Number}
 use Rattle.sets.specs.declared.Context.{Context}
 use Rattle.request.specs.declared.Request.{Request}
 use Rattle.numbers.specs.Numbers.{mostPanels, sameNumber}
@@ -39,7 +40,7 @@ use Rattle.creek.specs.Book.{planned}
 use Rattle.creek.specs.internal.Sound.{Sound}
 use Rattle.creek.proofs.StackLaws.{stacked-board, stacked-adjusted}
 use Rattle.replica.specs.State.{State}
-use Rattle.store.specs.Requests.{requestAt, Stored}
+use Rattle.store.specs.Requests.{requestOf, requestAt, Stored}
 use Rattle.store.proofs.RequestLaws.{stored-other, stored-long}
 use Rattle.replica.specs.internal.Model.{orderSlots, boardSlots, orderOf, boardOf, planOf, bookOf, model}
 use Rattle.replica.specs.internal.Model.{Counts, Lengths, Log, Inv}
@@ -365,15 +366,19 @@ module _ (p : State) (x : Request) (inv : Inv p) (new : Enters p x) where
           (omega (arith, inv .counts, length-order-slots p inv)) (all-take _ (p .executed) (orderSlots p) others))
 
       pub entered-by : {clocks operations contexts held known : List ℕ} {k : ℕ}
-          → Stored (p .clocks) (p .operations) (p .contexts) s x clocks operations contexts
+          → Stored (p .clocks) (p .operations) (p .contexts) s (requestOf (numberOf s) (x .clock) (x .asked) (x .context .words))
+          clocks operations contexts
           → setOf held ≡ join (p .held) (x .number)
           → setOf known ≡ knownWith (p .known) (x .asked .strong) (x .number)
           → k ≡ min (p .executed) at
           → (awaiting : List ℕ) (events : ℕ) (clock : Clock)
           → Entered p x (setOf awaiting) events clock (enlarged p held known awaiting clocks operations contexts order k events clock)
       entered-by {clocks} {operations} {contexts} stored joined knows k-is awaiting events clock =
+          let its-number : numberOf s ≡ x .number = ap numberOf slot-of ∙ number-of-slot (x .number) (new .number) in
           rw (k-is, kept-is)
           (entered-after clocks operations contexts
-          (subst (λ (t : ℕ). Stored (p .clocks) (p .operations) (p .contexts) t x clocks operations contexts) slot-of stored) order
+          (subst (λ (t : ℕ). Stored (p .clocks) (p .operations) (p .contexts) t x clocks operations contexts) slot-of
+          (subst (λ (n : Number). Stored (p .clocks) (p .operations) (p .contexts) s (requestOf n (x .clock) (x .asked) (x .context .words))
+          clocks operations contexts) its-number stored)) order
           (subst (λ (t : ℕ). Inserted (p .order) (p .ordered) (placeOf p x) t order) slot-of
           (subst (λ (k : ℕ). Inserted (p .order) (p .ordered) k s order) place-is inserted)) _ _ awaiting joined knows events clock)

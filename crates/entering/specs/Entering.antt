@@ -5,25 +5,27 @@ use mathlib.Core.Path.{_≡_}
 use mathlib.Core.Bool.{Bool, true, false, cond}
 use mathlib.Core.List.{List}
 use lib.ListN.{length}
+use denote.Ref.{RefT}
+use denote.Triple.Both.{Both}
 use Rattle.numbers.specs.declared.Clock.{Clock}
 use Rattle.numbers.specs.declared.Number.{Number}
-use Rattle.numbers.specs.Numbers.{mostPanels}
+use Rattle.numbers.specs.declared.PanelNo.{PanelNo}
+use Rattle.numbers.specs.Numbers.{mostPanels, clockReading, noNumber}
 use Rattle.numbers.specs.internal.Slots.{GoodNumber, slotOf}
 use Rattle.sets.specs.declared.Context.{Context}
 use Rattle.sets.specs.Sets.{setOf, emptySet, member}
 use Rattle.request.specs.declared.Request.{Request}
 use Rattle.slots.specs.Slots.{without}
 use Rattle.slots.specs.Insertion.{placeFor}
+use Rattle.creek.specs.declared.Answer.{Answer}
 use Rattle.creek.specs.declared.Invocation.{Invocation}
 use Rattle.creek.specs.Plan.{Plan, emptyPlan, entered, lastEvent, lastClock, invokeRefusal, deliverRefusal}
 use Rattle.creek.specs.Book.{invoke, deliver, planned}
+use Rattle.creek.specs.Replies.{refusedWith}
 use Rattle.counters.specs.Counted.{counted}
 use Rattle.creek.specs.internal.Sound.{Sound, mostRequests}
-use Rattle.replica.specs.declared.Core.{Core}
-use Rattle.replica.specs.declared.CallResult.{CallResult}
-use Rattle.replica.specs.State.{State, packed}
-use Rattle.replica.specs.internal.Cores.{withEntered}
-use Rattle.replica.specs.Promises.{Kept}
+use Rattle.replica.specs.State.{State}
+use Rattle.replica.specs.internal.Parts.{Asks, KeptBy, standing}
 use Rattle.replica.specs.internal.Model.{planOf, bookOf, model, Inv}
 
 -- ---- what is asked of a request that is made
@@ -78,52 +80,126 @@ pub record Entered (p : State) (x : Request) (awaiting : Context) (events : ℕ)
 
 -- ---- over the parts of a panel
 
--- p with that core and the parts that the calls are lent
-abbrev pub enterParts : State → Core → (held known awaiting clocks operations contexts order : List ℕ) → State
-enterParts p core held known awaiting clocks operations contexts order =
-    packed core (p .counters) held known awaiting clocks operations contexts order (p .stack) (p .registers) (p .saved) (p .responses)
+-- what is lent to a call by which a request enters: the counts of the order and of the executed list, and the arrays
+pub record Lent : Type 0 where
+  pub ordered : ℕ
+  pub executed : ℕ
+  pub held : List ℕ
+  pub known : List ℕ
+  pub clocks : List ℕ
+  pub operations : List ℕ
+  pub contexts : List ℕ
+  pub order : List ℕ
 
--- the same where those who await a reply are not lent
-abbrev pub deliverParts : State → Core → (held known clocks operations contexts order : List ℕ) → State
-deliverParts p core held known clocks operations contexts order =
-    enterParts p core held known (p .awaiting .words) clocks operations contexts order
+-- what references to them refer to: where they are passed, at a function's entry, and at its exit
+abbrev pub lentNow : (ordered executed : RefT ℕ) (held known clocks operations contexts order : RefT (List ℕ)) → Lent
+lentNow ordered executed held known clocks operations contexts order = record {
+  ordered = ordered .now;
+  executed = executed .now;
+  held = held .now;
+  known = known .now;
+  clocks = clocks .now;
+  operations = operations .now;
+  contexts = contexts .now;
+  order = order .now;
+}
+
+abbrev pub lentEntry : (ordered executed : Both (RefT ℕ) (RefT ℕ)) (held known clocks operations contexts order : Both (RefT (List ℕ)) (RefT (List ℕ))) → Lent
+lentEntry ordered executed held known clocks operations contexts order =
+    lentNow (ordered .entry) (executed .entry) (held .entry) (known .entry) (clocks .entry) (operations .entry) (contexts .entry) (order .entry)
+
+abbrev pub lentExit : (ordered executed : Both (RefT ℕ) (RefT ℕ)) (held known clocks operations contexts order : Both (RefT (List ℕ)) (RefT (List ℕ))) → Lent
+lentExit ordered executed held known clocks operations contexts order =
+    lentNow (ordered .exit) (executed .exit) (held .exit) (known .exit) (clocks .exit) (operations .exit) (contexts .exit) (order .exit)
+
+-- a panel with those parts, those who await a reply, and that last own event and clock reading
+abbrev pub entering : Lent → List ℕ → ℕ → Clock → State → State
+entering l awaiting events clock p = record {
+  panels = p .panels;
+  own = p .own;
+  events = events;
+  clock = clock;
+  committed = p .committed;
+  ordered = l .ordered;
+  executed = l .executed;
+  stacked = p .stacked;
+  commits = p .commits;
+  counters = p .counters;
+  held = setOf (l .held);
+  known = setOf (l .known);
+  awaiting = setOf awaiting;
+  clocks = l .clocks;
+  operations = l .operations;
+  contexts = l .contexts;
+  order = l .order;
+  stack = p .stack;
+  registers = p .registers;
+  saved = p .saved;
+  responses = p .responses;
+}
+
+-- a panel with those parts
+abbrev pub hearing : Lent → State → State
+hearing l p = entering l (p .awaiting .words) (p .events) (p .clock) p
 
 -- x, of that slot and place, may enter a panel with these parts that came from fresh and the calls
-pub record EnterAsks (core : Core) (held known clocks operations contexts order : List ℕ) (slot at : ℕ) (x : Request) : Type 0 where
+pub record EnterAsks (l : Lent) (slot at : ℕ) (x : Request) : Type 0 where
   pub panel : State
-  pub invariant : Inv (deliverParts panel core held known clocks operations contexts order)
-  pub enters : Enters (deliverParts panel core held known clocks operations contexts order) x
+  pub invariant : Inv (hearing l panel)
+  pub enters : Enters (hearing l panel) x
   pub its-slot : slot ≡ slotOf (x .number)
-  pub its-place : at ≡ placeFor clocks order (core .committed) (core .ordered) (x .clock .0) slot
+  pub its-place : at ≡ placeFor (l .clocks) (l .order) (panel .committed) (l .ordered) (x .clock .0) slot
+  pub words : length (x .context .words) ≡ mostPanels
 
--- of every such panel: x entered, and `executed` of the executed list stays
-pub record EnterKept (core : Core) (held known clocks operations contexts order : List ℕ) (x : Request)
-    (held′ known′ clocks′ operations′ contexts′ order′ : List ℕ) (executed : ℕ) : Type 0 where
-  pub kept : (p : State) → Inv (deliverParts p core held known clocks operations contexts order)
-      → Enters (deliverParts p core held known clocks operations contexts order) x
+-- of every such panel: x entered
+pub record EnterKept (l : Lent) (slot at : ℕ) (x : Request) (l′ : Lent) : Type 0 where
+  pub kept : (p : State) → Inv (hearing l p) → Enters (hearing l p) x
+      → at ≡ placeFor (l .clocks) (l .order) (p .committed) (l .ordered) (x .clock .0) slot
       → (awaiting : List ℕ) (events : ℕ) (clock : Clock)
-      → Entered (deliverParts p core held known clocks operations contexts order) x (setOf awaiting) events clock
-      (enterParts p (withEntered core executed events clock) held′ known′ awaiting clocks′ operations′ contexts′ order′)
+      → Entered (hearing l p) x (setOf awaiting) events clock (entering l′ awaiting events clock p)
 
--- they are the parts of a panel that came from fresh and the calls
-pub record DeliverAsks (core : Core) (held known clocks operations contexts order : List ℕ) : Type 0 where
-  pub panel : State
-  pub invariant : Inv (deliverParts panel core held known clocks operations contexts order)
+-- ---- deliver
 
--- of every such panel: the delivery was answered and carried out as `creek` says
-pub record DeliverKept (core : Core) (held known clocks operations contexts order : List ℕ) (x : Request)
-    (held′ known′ clocks′ operations′ contexts′ order′ : List ℕ) (r : CallResult) : Type 0 where
-  pub kept : (p : State) → Inv (deliverParts p core held known clocks operations contexts order)
-      → Kept (deliverParts p core held known clocks operations contexts order) (deliver x)
-      (record { answer = r .answer; state = deliverParts p (r .core) held′ known′ clocks′ operations′ contexts′ order′ })
+-- a panel of that shop, of which so many are committed, with those parts
+abbrev pub deliverParts : ℕ → PanelNo → ℕ → Lent → State → State
+deliverParts panels own committed l p = hearing l (standing panels own committed p)
 
--- the same of an invocation
-pub record InvokeAsks (core : Core) (held known awaiting clocks operations contexts order : List ℕ) : Type 0 where
-  pub panel : State
-  pub invariant : Inv (enterParts panel core held known awaiting clocks operations contexts order)
+-- they are the parts of a panel that came from fresh and the calls, and words of a context
+pub record DeliverAsks (panels : ℕ) (own : PanelNo) (committed : ℕ) (l : Lent) (words : List ℕ) : Type 0 where
+  pub parts : Asks (deliverParts panels own committed l)
+  pub long : length words ≡ mostPanels
 
-pub record InvokeKept (core : Core) (held known awaiting clocks operations contexts order : List ℕ) (i : Invocation)
-    (held′ known′ awaiting′ clocks′ operations′ contexts′ order′ : List ℕ) (r : CallResult) : Type 0 where
-  pub kept : (p : State) → Inv (enterParts p core held known awaiting clocks operations contexts order)
-      → Kept (enterParts p core held known awaiting clocks operations contexts order) (invoke i)
-      (record { answer = r .answer; state = enterParts p (r .core) held′ known′ awaiting′ clocks′ operations′ contexts′ order′ })
+-- of every such panel: the delivery with that answer was carried out as `creek` says
+abbrev pub DeliverKept : ℕ → PanelNo → ℕ → Lent → Request → Lent → Answer → Type 0
+DeliverKept panels own committed l x l′ a = KeptBy (deliverParts panels own committed l) (deliverParts panels own committed l′) (deliver x) a
+
+-- the answer of a delivery with that refusal
+abbrev pub heardAnswer : ℕ → Answer
+heardAnswer w = refusedWith w noNumber
+
+-- ---- invoke
+
+-- what is lent of the own requests: those who await a reply, the last event and the last clock reading
+pub record OwnLent : Type 0 where
+  pub awaiting : List ℕ
+  pub events : ℕ
+  pub clock : ℕ
+
+abbrev pub ownNow : RefT (List ℕ) → RefT ℕ → RefT ℕ → OwnLent
+ownNow awaiting events clock = record { awaiting = awaiting .now; events = events .now; clock = clock .now }
+
+abbrev pub ownEntry : Both (RefT (List ℕ)) (RefT (List ℕ)) → Both (RefT ℕ) (RefT ℕ) → Both (RefT ℕ) (RefT ℕ) → OwnLent
+ownEntry awaiting events clock = ownNow (awaiting .entry) (events .entry) (clock .entry)
+
+abbrev pub ownExit : Both (RefT (List ℕ)) (RefT (List ℕ)) → Both (RefT ℕ) (RefT ℕ) → Both (RefT ℕ) (RefT ℕ) → OwnLent
+ownExit awaiting events clock = ownNow (awaiting .exit) (events .exit) (clock .exit)
+
+-- a panel of that own number, of which so many are committed, with those parts
+abbrev pub invokeParts : PanelNo → ℕ → OwnLent → Lent → State → State
+invokeParts own committed o l p = entering l (o .awaiting) (o .events) (clockReading (o .clock)) (standing (p .panels) own committed p)
+
+abbrev pub InvokeAsks : PanelNo → ℕ → OwnLent → Lent → Type 0
+InvokeAsks own committed o l = Asks (invokeParts own committed o l)
+
+abbrev pub InvokeKept : PanelNo → ℕ → OwnLent → Lent → Invocation → OwnLent → Lent → Answer → Type 0
+InvokeKept own committed o l i o′ l′ a = KeptBy (invokeParts own committed o l) (invokeParts own committed o′ l′) (invoke i) a

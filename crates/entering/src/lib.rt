@@ -1,4 +1,7 @@
 // The calls that bring a request, invoke and deliver.
+//
+// A call is given the numbers of a panel that it reads, and lent the counts that it changes and the arrays that it uses. A request comes by
+// its number, its clock reading, what it asks for, and the lent words of its context.
 use creek::Answer;
 use creek::Invocation;
 use creek::mark::NOBODY;
@@ -6,26 +9,36 @@ use numbers::Clock;
 use numbers::EventNo;
 use numbers::Number;
 use numbers::PanelNo;
-use replica::CallResult;
-use replica::Core;
+use request::Asked;
 use request::Request;
 use request::asks;
 use request::refusal;
 use sets::Context;
 ghost use mathlib.Core.Path.{_≡_};
 ghost use mathlib.Core.Option.{some};
+ghost use lib.ListN.{length};
 ghost use lib.Seq.{slice};
+ghost use Rattle.numbers.specs.Numbers.{mostPanels};
 ghost use Rattle.sets.specs.Sets.{setOf};
+ghost use Rattle.request.specs.Request.{badContext};
 ghost use Rattle.slots.specs.Slots.{Part};
+ghost use Rattle.store.specs.Requests.{requestOf};
 ghost use Rattle.creek.specs.Plan.{knownWith, atLeast, heldRefusal};
 ghost use Rattle.creek.specs.Replies.{spread as spreadAnswer};
+ghost use Rattle.replica.specs.internal.Parts.{Asks};
 ghost use Rattle.entering.specs.Entering.{InvokeRefused, contextWithout, requestFor, judged, EnterAsks, EnterKept};
+ghost use Rattle.entering.specs.Entering.{lentNow, lentEntry, lentExit, ownNow, ownEntry, ownExit, deliverParts, heardAnswer};
 ghost use Rattle.entering.specs.Entering.{DeliverAsks, DeliverKept, InvokeAsks, InvokeKept};
 
 // A request is made: it enters as one that is heard does, awaits a reply, and is to be spread to the other panels. One made with a lower
 // clock takes the reading of the last own request.
 pub fn invoke(
-    core: Core,
+    own: PanelNo,
+    committed: usize,
+    ordered: &mut usize,
+    executed: &mut usize,
+    events: &mut u8,
+    clock: &mut u32,
     held: &mut [u64; 8],
     known: &mut [u64; 8],
     awaiting: &mut [u64; 8],
@@ -34,39 +47,33 @@ pub fn invoke(
     contexts: &mut [u64; 4096],
     order: &mut [u16; 512],
     i: Invocation,
-) -> CallResult
-    requires { ⌜ InvokeAsks core (now held) (now known) (now awaiting) (now clocks) (now operations) (now contexts) (now order) ⌝ }
-    ensures { λ r. ⌜ InvokeKept core (now (held .entry)) (now (known .entry)) (now (awaiting .entry)) (now (clocks .entry))
-        (now (operations .entry)) (now (contexts .entry)) (now (order .entry)) i
-        (now (held .exit)) (now (known .exit)) (now (awaiting .exit)) (now (clocks .exit)) (now (operations .exit)) (now (contexts .exit))
-        (now (order .exit)) r ⌝ }
+) -> Answer
+    requires { ⌜ InvokeAsks own committed (ownNow awaiting events clock)
+        (lentNow ordered executed held known clocks operations contexts order) ⌝ }
+    ensures { λ a. ⌜ InvokeKept own committed
+        (ownEntry awaiting events clock) (lentEntry ordered executed held known clocks operations contexts order) i
+        (ownExit awaiting events clock) (lentExit ordered executed held known clocks operations contexts order) a ⌝ }
 {
-    let refusal = ask(core.events, i);
+    let made = *events;
+    let refusal = invoke_refusal(made, i);
     if refusal != refusal::ACCEPTED {
-        let answer = replica::refused(refusal);
-        return CallResult { core, answer };
+        return replica::refused(refusal);
     }
-    let raised = at_least(core.clock, i);
-    let event = core.events + 1;
-    let own = core.own;
+    let last = *clock;
+    let raised = at_least(Clock(last), i);
+    let event = made + 1;
     let number = Number {
         panel: own,
         event: EventNo(event),
     };
     let slot = numbers::slot_of(number);
-    let at = slots::place(
-        clocks,
-        order,
-        core.committed,
-        core.ordered,
-        raised.clock.0,
-        slot,
-    );
+    let n = *ordered;
+    let at = slots::place(clocks, order, committed, n, raised.clock.0, slot);
     // The later ones of the tentative requests are those from there on.
-    let context = context_for(raised.asked.strong, known, order, at, core.ordered);
-    let x = request_for(number, raised, context);
-    let executed = enter(
-        core,
+    let context = context_for(raised.asked.strong, known, order, at, n);
+    enter(
+        ordered,
+        executed,
         held,
         known,
         clocks,
@@ -75,26 +82,21 @@ pub fn invoke(
         order,
         slot,
         at,
-        x,
+        number,
+        raised.clock,
+        raised.asked,
+        &context.words,
     );
     store::join(awaiting, number);
-    let clock = raised.clock;
-    let mut after = core;
-    after.ordered = core.ordered + 1;
-    after.executed = executed;
-    after.events = event;
-    after.clock = clock;
-    let answer = spread(x);
-    CallResult {
-        core: after,
-        answer,
-    }
+    *events = event;
+    *clock = raised.clock.0;
+    spread(request_for(number, raised, context))
 }
 
-// x, whose slot and place of the order these are, enters, and what is executed behind that place is to be rolled back: how much of the
-// executed list stays.
-fn enter(
-    core: Core,
+// The request of that slot and place of the order enters, and what is executed behind that place is to be rolled back.
+fn enter<'a>(
+    ordered: &mut usize,
+    executed: &mut usize,
     held: &mut [u64; 8],
     known: &mut [u64; 8],
     clocks: &mut [u32; 512],
@@ -103,25 +105,31 @@ fn enter(
     order: &mut [u16; 512],
     slot: u16,
     at: usize,
-    x: Request,
-) -> usize
-    requires { ⌜ EnterAsks core (now held) (now known) (now clocks) (now operations) (now contexts) (now order) slot at x ⌝ }
-    ensures { λ k. ⌜ EnterKept core (now (held .entry)) (now (known .entry)) (now (clocks .entry)) (now (operations .entry))
-        (now (contexts .entry)) (now (order .entry)) x
-        (now (held .exit)) (now (known .exit)) (now (clocks .exit)) (now (operations .exit)) (now (contexts .exit)) (now (order .exit)) k ⌝ }
+    number: Number,
+    clock: Clock,
+    asked: Asked,
+    words: &'a [u64; 8],
+)
+    requires { ⌜ EnterAsks (lentNow ordered executed held known clocks operations contexts order) slot at
+        (requestOf number clock asked (now words)) ⌝ }
+    ensures { λ _. ⌜ EnterKept (lentEntry ordered executed held known clocks operations contexts order) slot at
+        (requestOf number clock asked (now (words .entry))) (lentExit ordered executed held known clocks operations contexts order) ⌝ }
 {
-    let n = core.ordered;
-    let number = x.number;
+    let n = *ordered;
     slots::insert_at(order, n, at, slot);
     store::join(held, number);
-    know(known, x.asked.strong, number);
-    store::put_request(clocks, operations, contexts, slot, x);
-    // What is executed agrees with the order up to the place of x, and x is not executed.
-    replica::lower(core.executed, at)
+    know(known, asked.strong, number);
+    store::put_request(clocks, operations, contexts, slot, clock, asked, words);
+    let grown = n + 1;
+    *ordered = grown;
+    // What is executed agrees with the order up to the place of the request, which is not executed.
+    let before = *executed;
+    let kept = replica::lower(before, at);
+    *executed = kept;
 }
 
 // The refusals of an invocation after an own request of that event: bad operation, shift full.
-fn ask(events: u8, i: Invocation) -> u8
+fn invoke_refusal(events: u8, i: Invocation) -> u8
     ensures { λ w. ⌜ InvokeRefused events i w ⌝ }
 {
     if asks::bad(i.asked) {
@@ -170,10 +178,10 @@ fn request_for(number: Number, i: Invocation, context: Context) -> Request
     let clock = i.clock;
     let asked = i.asked;
     Request {
-        number,
-        clock,
-        asked,
         context,
+        asked,
+        clock,
+        number,
     }
 }
 
@@ -182,44 +190,58 @@ fn spread(x: Request) -> Answer
     ensures { λ a. ⌜ a ≡ spreadAnswer x ⌝ }
 {
     Answer {
-        refusal: refusal::ACCEPTED,
         request: x,
-        number: numbers::none(),
         response: 0,
+        number: numbers::none(),
+        refusal: refusal::ACCEPTED,
         mark: NOBODY,
     }
 }
 
 // A request of another panel is heard: it enters, unless it is refused.
-pub fn deliver(
-    core: Core,
+pub fn deliver<'a>(
+    panels: u8,
+    own: PanelNo,
+    committed: usize,
+    ordered: &mut usize,
+    executed: &mut usize,
     held: &mut [u64; 8],
     known: &mut [u64; 8],
     clocks: &mut [u32; 512],
     operations: &mut [u64; 512],
     contexts: &mut [u64; 4096],
     order: &mut [u16; 512],
-    x: Request,
-) -> CallResult
-    requires { ⌜ DeliverAsks core (now held) (now known) (now clocks) (now operations) (now contexts) (now order) ⌝ }
-    ensures { λ r. ⌜ DeliverKept core (now (held .entry)) (now (known .entry)) (now (clocks .entry)) (now (operations .entry))
-        (now (contexts .entry)) (now (order .entry)) x
-        (now (held .exit)) (now (known .exit)) (now (clocks .exit)) (now (operations .exit)) (now (contexts .exit)) (now (order .exit)) r ⌝ }
+    number: Number,
+    clock: Clock,
+    asked: Asked,
+    words: &'a [u64; 8],
+) -> u8
+    requires { ⌜ DeliverAsks panels own committed (lentNow ordered executed held known clocks operations contexts order) (now words) ⌝ }
+    ensures { λ w. ⌜ DeliverKept panels own committed (lentEntry ordered executed held known clocks operations contexts order)
+        (requestOf number clock asked (now (words .entry))) (lentExit ordered executed held known clocks operations contexts order)
+        (heardAnswer w) ⌝ }
 {
-    let refusal = judge(core.panels, core.own, x);
+    let refusal = judge(panels, own, number, clock, asked, words);
     if refusal != refusal::ACCEPTED {
-        let answer = replica::refused(refusal);
-        return CallResult { core, answer };
+        return refusal;
     }
-    let slot = numbers::slot_of(x.number);
-    if store::member(held, x.number) {
+    let slot = numbers::slot_of(number);
+    if store::member(held, number) {
         let there = store::request_at(clocks, operations, contexts, slot);
-        let answer = replica::refused(held_refusal(there, x));
-        return CallResult { core, answer };
+        let again = *words;
+        let x = Request {
+            context: Context { words: again },
+            asked,
+            clock,
+            number,
+        };
+        return held_refusal(there, x);
     }
-    let at = slots::place(clocks, order, core.committed, core.ordered, x.clock.0, slot);
-    let executed = enter(
-        core,
+    let n = *ordered;
+    let at = slots::place(clocks, order, committed, n, clock.0, slot);
+    enter(
+        ordered,
+        executed,
         held,
         known,
         clocks,
@@ -228,35 +250,95 @@ pub fn deliver(
         order,
         slot,
         at,
-        x,
+        number,
+        clock,
+        asked,
+        words,
     );
-    let mut after = core;
-    after.ordered = core.ordered + 1;
-    after.executed = executed;
-    let answer = replica::done();
-    CallResult {
-        core: after,
-        answer,
-    }
+    refusal::ACCEPTED
+}
+
+// The same of a request by value, with its answer.
+pub fn deliver_request(
+    panels: u8,
+    own: PanelNo,
+    committed: usize,
+    ordered: &mut usize,
+    executed: &mut usize,
+    held: &mut [u64; 8],
+    known: &mut [u64; 8],
+    clocks: &mut [u32; 512],
+    operations: &mut [u64; 512],
+    contexts: &mut [u64; 4096],
+    order: &mut [u16; 512],
+    x: Request,
+) -> Answer
+    requires { ⌜ Asks (deliverParts panels own committed (lentNow ordered executed held known clocks operations contexts order)) ⌝ }
+    ensures { λ a. ⌜ DeliverKept panels own committed (lentEntry ordered executed held known clocks operations contexts order) x
+        (lentExit ordered executed held known clocks operations contexts order) a ⌝ }
+{
+    let refusal = deliver(
+        panels,
+        own,
+        committed,
+        ordered,
+        executed,
+        held,
+        known,
+        clocks,
+        operations,
+        contexts,
+        order,
+        x.number,
+        x.clock,
+        x.asked,
+        &x.context.words,
+    );
+    replica::refused(refusal)
 }
 
 // The refusals of a delivery that do not ask what is held: bad number, own echo, bad operation, bad context.
-fn judge(panels: u8, own: PanelNo, x: Request) -> u8
-    ensures { λ w. ⌜ w ≡ judged panels (own .0) x ⌝ }
+fn judge<'a>(
+    panels: u8,
+    own: PanelNo,
+    number: Number,
+    clock: Clock,
+    asked: Asked,
+    words: &'a [u64; 8],
+) -> u8
+    requires { ⌜ length (now words) ≡ mostPanels ⌝ }
+    ensures { λ w. ⌜ w ≡ judged panels (own .0) (requestOf number clock asked (now (words .entry))) ⌝ }
 {
-    if numbers::bad(panels, x.number) {
+    if numbers::bad(panels, number) {
         return refusal::BAD_NUMBER;
     }
-    if x.number.panel.0 == own.0 {
+    if number.panel.0 == own.0 {
         return refusal::OWN_ECHO;
     }
-    if asks::bad(x.asked) {
+    if asks::bad(asked) {
         return refusal::BAD_OPERATION;
     }
-    if request::bad_context(panels, x) {
+    if bad_context(panels, number, clock, asked, words) {
         return refusal::BAD_CONTEXT;
     }
     refusal::ACCEPTED
+}
+
+// The test behind refusal 21 in a shop of `panels` panels.
+fn bad_context<'a>(
+    panels: u8,
+    number: Number,
+    clock: Clock,
+    asked: Asked,
+    words: &'a [u64; 8],
+) -> bool
+    requires { ⌜ length (now words) ≡ mostPanels ⌝ }
+    ensures { λ r. ⌜ r ≡ badContext panels (requestOf number clock asked (now (words .entry))) ⌝ }
+{
+    let some = store::names_from(words, 0);
+    let itself = store::member(words, number);
+    let outside = store::names_from(words, panels);
+    (!asked.strong & some) | itself | outside
 }
 
 // The refusal of x where y is held under its number.

@@ -1,36 +1,40 @@
 -- `entering::enter` meets its contract.
+use native.Mathlib.Omega.{arith}
+use Rattle.request.specs.declared.Request.{Request}
+use Rattle.store.specs.Requests.{requestOf}
 use Rattle.replica.specs.State.{State}
-use Rattle.entering.specs.Entering.{deliverParts}
+use Rattle.entering.specs.Entering.{lentNow, hearing}
 use Rattle.entering.proofs.EnteringLaws.{slot-is, insertion-asks, entered-by}
 use borrow.Author.Needs.{needs}
 use Rattle.entering.proofs.enter.Statement.{statement}
 use Rattle.entering.proofs.enter.Tie as tie
 
--- ---- earlier places of the function, from later ones
-
-abbrev after-know : tie.After-lower → tie.After-know
-after-know c = c .before .before .before .before .before
-
 -- ---- the places of the call
-
-abbrev inserted : tie.After-know → tie.After-insert-at
-inserted c = c .before .before .before .before
 
 abbrev start : tie.After-insert-at → tie.Start
 start c = c .before .before .before
 
--- a panel with the parts lent
+abbrev inserted : tie.After-know → tie.After-insert-at
+inserted c = c .before .before .before .before
+
+abbrev known : tie.After-put-request → tie.After-know
+known c = c .before .before .before .before
+
+-- a panel with the parts lent, and the request
 abbrev lent : tie.Start → State
 lent a =
-    deliverParts (a .pre .panel) (a .args .core) (a .args .held .now) (a .args .known .now) (a .args .clocks .now) (a .args .operations .now)
-    (a .args .contexts .now) (a .args .order .now)
+    hearing (lentNow (a .args .ordered) (a .args .executed) (a .args .held) (a .args .known) (a .args .clocks) (a .args .operations)
+    (a .args .contexts) (a .args .order)) (a .pre .panel)
+
+abbrev heard : tie.Start → Request
+heard a = requestOf (a .args .number) (a .args .clock) (a .args .asked) (a .args .words .now)
 
 -- ---- what the function needs
 
 insert-at-requires : tie.Need-insert-at-requires
 insert-at-requires c κs =
     let a = c .before .before in
-    insertion-asks (lent a) (a .args .x) (a .pre .invariant) (a .pre .enters) _ _ (a .pre .its-slot) (a .pre .its-place)
+    insertion-asks (lent a) (heard a) (a .pre .invariant) (a .pre .enters) _ _ (a .pre .its-slot) (a .pre .its-place)
 
 join-requires : tie.Need-join-requires
 join-requires c κs = search needs
@@ -40,21 +44,27 @@ know-requires c κs = search needs
 
 put-request-requires : tie.Need-put-request-requires
 put-request-requires c κs =
-    let a = start (inserted (c .before .before .before)) in
-    (rw (a .pre .its-slot) (slot-is (lent a) (a .args .x) (a .pre .invariant) (a .pre .enters)), a .pre .invariant .lengths .requests)
+    let a = start (inserted (c .before .before .before)) in (
+      rw (a .pre .its-slot) (slot-is (lent a) (heard a) (a .pre .invariant) (a .pre .enters)),
+      a .pre .invariant .lengths .requests,
+      a .pre .words,
+    )
+
+add-grown : tie.Need-add-grown
+add-grown c = let a = start (inserted (known c)) in omega (arith, a .pre .enters .room)
 
 lower-requires : tie.Need-lower-requires
 lower-requires c κs = search needs
 
 returns : tie.Need-returns
 returns c =
-    let stored = c .before in
-    let known = stored .before .before .before .before in
-    let a = start (inserted known) in
+    let stored = c .before .before in
+    let knows = known stored in
+    let a = start (inserted knows) in
     record {
-      kept = λ p inv enters.
-          entered-by _ (a .args .x) inv enters _ _ (a .pre .its-slot) (a .pre .its-place) _ (inserted known .insert-at .ensures)
-          (stored .put-request .ensures) (known .before .before .join .ensures) (known .know .ensures) (c .lower .ensures);
+      kept = λ p inv enters place.
+          entered-by _ (heard a) inv enters _ _ (a .pre .its-slot) place _ (inserted knows .insert-at .ensures)
+          (stored .put-request .ensures) (knows .before .before .join .ensures) (knows .know .ensures) (c .lower .ensures);
     }
 
 pub enter-spec : {M : Type 1} → statement M
@@ -65,5 +75,6 @@ enter-spec =
     join-requires
     know-requires
     put-request-requires
+    add-grown
     lower-requires
     returns)

@@ -1,80 +1,78 @@
 -- `entering::invoke` meets its contract; its laws are in `InvokingLaws`.
 use native.Mathlib.Omega.{arith}
-use mathlib.Core.Path.{sym, ap, subst, _∙_}
+use mathlib.Core.Path.{_≡_, refl, ap, _∙_}
+use lib.ListN.{length}
+use Rattle.numbers.specs.Numbers.{mostPanels}
 use Rattle.request.specs.declared.Request.{Request}
-use Rattle.numbers.specs.internal.Slots.{slotOf}
 use Rattle.creek.specs.Replies.{spread}
 use Rattle.replica.specs.State.{State}
 use Rattle.replica.specs.internal.Model.{Inv}
-use Rattle.slots.specs.Insertion.{placeFor}
-use Rattle.entering.specs.Entering.{Enters, enterParts}
-use Rattle.entering.proofs.InvokingLaws.{kept-asked, events-left, next-place-asks, behind-next, asked-enters, kept-made}
+use Rattle.entering.specs.Entering.{Enters, lentNow, ownNow, invokeParts}
+use Rattle.entering.proofs.InvokingLaws.{asRequest, kept-asked, events-left, next-place-asks, behind-next, asked-enters, kept-made}
 use borrow.Author.Needs.{needs}
 use Rattle.entering.proofs.invoke.Statement.{statement}
 use Rattle.entering.proofs.invoke.Tie as tie
 
--- ---- earlier places of the function, from later ones
-
-abbrev after-request-for-from-after-enter-arg6 : tie.After-enter-arg6 → tie.After-request-for
-after-request-for-from-after-enter-arg6 c = c .before .before .before .before .before .before
-
-abbrev after-request-for-from-after-struct-known2 : tie.After-struct-known2 → tie.After-request-for
-after-request-for-from-after-struct-known2 c = c .before .before .before .before .before .before .before .before .before .before .before
-
-abbrev after-request-for-from-after-enter : tie.After-enter → tie.After-request-for
-after-request-for-from-after-enter c = c .before .before .before .before .before .before .before
-
 -- ---- the places of the call
 
--- where the reading is taken, from where the slot is known
-abbrev raised : tie.After-slot-of → tie.After-at-least
-raised c = c .before .before .before
+-- its start, from where the invocation is judged
+abbrev start : tie.After-invoke-refusal → tie.Start
+start c = c .before .before
 
--- its start, from where the slot is known
-abbrev start : tie.After-slot-of → tie.Start
-start c = raised c .before .before .before
+-- where it is judged, from where its reading is taken
+abbrev judged : tie.After-at-least → tie.After-invoke-refusal
+judged c = c .before .before .before
 
 -- where the slot is known, from where the place is
 abbrev slotted : tie.After-place → tie.After-slot-of
-slotted c = c .before .before .before
+slotted c = c .before .before .before .before
 
 -- where the place is known, from where the context is
 abbrev placed : tie.After-context-for → tie.After-place
 placed c = c .before .before .before
 
+-- where the context is known, from where the request has entered
+abbrev asked : tie.After-enter → tie.After-context-for
+asked c = c .before .before .before .before .before .before .before .before .before .before .before
+
 -- a panel with the parts lent
 abbrev lent : tie.Start → State → State
-lent a p =
-    enterParts p (a .args .core) (a .args .held .now) (a .args .known .now) (a .args .awaiting .now) (a .args .clocks .now)
-    (a .args .operations .now) (a .args .contexts .now) (a .args .order .now)
+lent a =
+    invokeParts (a .args .own) (a .args .committed) (ownNow (a .args .awaiting) (a .args .events) (a .args .clock))
+    (lentNow (a .args .ordered) (a .args .executed) (a .args .held) (a .args .known) (a .args .clocks) (a .args .operations)
+    (a .args .contexts) (a .args .order))
 
 -- ---- what is known there
 
-enters : (c : tie.After-request-for) (p : State) → let a = start (slotted (placed (c .before))) in
-    Inv (lent a p) → Enters (lent a p) (c .request-for .result)
+enters : (c : tie.After-context-for) (p : State) → let raised = slotted (placed c) .before in let a = start (judged raised) in
+    Inv (lent a p) → Enters (lent a p) (asRequest (lent a p) (raised .at-least .result) (c .context-for .result))
 enters c p inv =
-    let asked = c .before in
-    let at = placed asked in
+    let at = placed c in
     let slot = slotted at in
-    let else = raised slot .before in
-    let a = start slot in
-    subst (Enters (lent a p)) (sym (c .request-for .ensures))
-    (asked-enters (lent a p) (a .args .i) inv _ (else .before .ask .ensures) (else .if1 .left) _ (raised slot .at-least .ensures) _
-    (slot .slot-of .ensures) _ (at .place .ensures) _ (asked .context-for .ensures))
+    let raised = slot .before in
+    let a = start (judged raised) in
+    asked-enters (lent a p) (a .args .i) inv _ (judged raised .invoke-refusal .ensures) (raised .before .before .if1 .left) _
+    (raised .at-least .ensures) _ (slot .slot-of .ensures) _ (at .place .ensures) _ (c .context-for .ensures)
+
+-- the type of the context's array says how many words there are
+count : (c : tie.After-context-for) → length (c .context-for .result .words) ≡ mostPanels
+count c = search needs
 
 -- ---- what the function needs
 
-ask-requires : tie.Need-ask-requires
-ask-requires c κs = search needs
+invoke-refusal-requires : tie.Need-invoke-refusal-requires
+invoke-refusal-requires c κs = search needs
 
 refused-requires : tie.Need-refused-requires
 refused-requires c κs = search needs
 
 returns : tie.Need-returns
 returns c =
-    let a = c .before .before .before in
+    let judged = c .before .before in
+    let a = start judged in
     record {
-      kept = λ p inv. kept-asked (lent a p) (a .args .i) inv _ (c .before .before .ask .ensures) _ (c .before .if1 .taken) (c .refused .ensures);
+      kept = λ p inv.
+          kept-asked (lent a p) (a .args .i) inv _ (judged .invoke-refusal .ensures) _ (c .before .if1 .taken) (c .refused .ensures);
     }
 
 at-least-requires : tie.Need-at-least-requires
@@ -82,84 +80,77 @@ at-least-requires c κs = search needs
 
 add-event : tie.Need-add-event
 add-event c =
-    let else = c .before .before in
-    let a = else .before .before in
-    omega (arith, events-left (lent a (a .pre .panel)) (a .args .i) (a .pre .invariant) _ (else .before .ask .ensures) (else .if1 .left))
+    let a = start (judged c) in
+    omega (arith, events-left (lent a (a .pre .panel)) (a .args .i) (a .pre .invariant) _ (judged c .invoke-refusal .ensures)
+    (c .before .before .if1 .left))
 
 slot-of-requires : tie.Need-slot-of-requires
 slot-of-requires c κs = search needs
 
 place-requires : tie.Need-place-requires
 place-requires c κs =
-    let slot = c .before .before in
-    let else = raised slot .before in
-    let a = start slot in
-    next-place-asks (lent a (a .pre .panel)) (a .args .i) (a .pre .invariant) _ (else .before .ask .ensures) (else .if1 .left)
-    (raised slot .at-least .result) _ (slot .slot-of .ensures)
+    let slot = c .before .before .before in
+    let raised = slot .before in
+    let a = start (judged raised) in
+    next-place-asks (lent a (a .pre .panel)) (a .args .i) (a .pre .invariant) _ (judged raised .invoke-refusal .ensures)
+    (raised .before .before .if1 .left) (raised .at-least .result) _ (slot .slot-of .ensures)
 
 context-for-requires : tie.Need-context-for-requires
 context-for-requires c κs =
     let at = c .before .before in
     let slot = slotted at in
-    let else = raised slot .before in
-    let a = start slot in
-    behind-next (lent a (a .pre .panel)) (a .args .i) (a .pre .invariant) _ (else .before .ask .ensures) (else .if1 .left)
-    (raised slot .at-least .result) _ (slot .slot-of .ensures) _ (at .place .ensures)
-
-request-for-requires : tie.Need-request-for-requires
-request-for-requires c κs = search needs
+    let raised = slot .before in
+    let a = start (judged raised) in
+    behind-next (lent a (a .pre .panel)) (a .args .i) (a .pre .invariant) _ (judged raised .invoke-refusal .ensures)
+    (raised .before .before .if1 .left) (raised .at-least .result) _ (slot .slot-of .ensures) _ (at .place .ensures)
 
 enter-requires : tie.Need-enter-requires
 enter-requires c κs =
-    let made = after-request-for-from-after-enter-arg6 c in
-    let at = placed (made .before) in
+    let context = c .before .before .before .before .before .before .before .before .before .before in
+    let at = placed context in
     let slot = slotted at in
-    let a = start slot in
+    let a = start (judged (slot .before)) in
     record {
       panel = lent a (a .pre .panel);
       invariant = a .pre .invariant;
-      enters = enters made (a .pre .panel) (a .pre .invariant);
-      its-slot = slot .slot-of .ensures ∙ ap (λ (x : Request). slotOf (x .number)) (sym (made .request-for .ensures));
-      its-place = at .place .ensures
-          ∙ ap (λ (x : Request). placeFor (a .args .clocks .now) (a .args .order .now) (a .args .core .committed) (a .args .core .ordered)
-          (x .clock .0) (slot .slot-of .result)) (sym (made .request-for .ensures));
+      enters = enters context (a .pre .panel) (a .pre .invariant);
+      its-slot = slot .slot-of .ensures;
+      its-place = at .place .ensures;
+      words = count context;
     }
 
 join-requires : tie.Need-join-requires
 join-requires c κs = search needs
 
-add-after : tie.Need-add-after
-add-after c =
-    let made = after-request-for-from-after-struct-known2 c in
-    let a = start (slotted (placed (made .before))) in
-    omega (arith, enters made (a .pre .panel) (a .pre .invariant) .room)
+request-for-requires : tie.Need-request-for-requires
+request-for-requires c κs = search needs
 
 spread-requires : tie.Need-spread-requires
 spread-requires c κs = search needs
 
 returns-2 : tie.Need-returns-2
 returns-2 c =
-    let waits = c .before .before .before in
+    let waits = c .before .before in
     let entered = waits .before .before in
-    let made = after-request-for-from-after-enter entered in
-    let asked = made .before in
-    let at = placed asked in
+    let context = asked entered in
+    let at = placed context in
     let slot = slotted at in
-    let else = slot .before .before .before .before in
-    let a = start slot in
+    let raised = slot .before in
+    let a = start (judged raised) in
     record {
       kept = λ p inv.
-          kept-made (lent a p) (a .args .i) inv _ (else .before .ask .ensures) (else .if1 .left) _ (raised slot .at-least .ensures) _
-          (slot .slot-of .ensures) _ (at .place .ensures) _ (asked .context-for .ensures) _ (made .request-for .ensures) _ _
-          (waits .join .ensures)
-          (entered .enter .ensures .kept (lent a p) inv (enters made p inv) _ _ _) _ (c .spread .ensures);
+          kept-made (lent a p) (a .args .i) inv _ (judged raised .invoke-refusal .ensures) (raised .before .before .if1 .left) _
+          (raised .at-least .ensures) _ (slot .slot-of .ensures) _ (at .place .ensures) _ (context .context-for .ensures)
+          (asRequest (lent a p) (raised .at-least .result) (context .context-for .result)) refl _ _ (waits .join .ensures)
+          (entered .enter .ensures .kept (lent a p) inv (enters context p inv) (at .place .ensures) _ _ _) _
+          (c .spread .ensures ∙ ap (λ (x : Request). spread x) (c .before .request-for .ensures));
     }
 
 pub invoke-spec : {M : Type 1} → statement M
 invoke-spec =
     tie.close
     (tie.spec
-    ask-requires
+    invoke-refusal-requires
     refused-requires
     returns
     at-least-requires
@@ -167,9 +158,8 @@ invoke-spec =
     slot-of-requires
     place-requires
     context-for-requires
-    request-for-requires
     enter-requires
     join-requires
-    add-after
+    request-for-requires
     spread-requires
     returns-2)

@@ -17,7 +17,7 @@ unfolding judged deliverRefusal
 returns c = rw (sym (c .before .bad .ensures) ∙ c .if1 .taken)
 
 -- what the tests said that were not met
-number-good : (c : tie.Else1) → badNumber (c .before .before .args .panels) (c .before .before .args .x .number) ≡ false
+number-good : (c : tie.Else1) → badNumber (c .before .before .args .panels) (c .before .before .args .number) ≡ false
 number-good c = sym (c .before .bad .ensures) ∙ c .if1 .left
 
 returns-2 : tie.Need-returns-2

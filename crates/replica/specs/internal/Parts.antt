@@ -2,6 +2,7 @@
 use Prim.Native.Nat.{ℕ}
 use mathlib.Core.Path.{_≡_}
 use mathlib.Core.List.{List}
+use Rattle.numbers.specs.declared.PanelNo.{PanelNo}
 use Rattle.creek.specs.declared.Answer.{Answer}
 use Rattle.creek.specs.Book.{Call}
 use Rattle.creek.specs.Calls.{Replica}
@@ -27,6 +28,32 @@ pub record Asks (parts : State → State) : Type 0 where
 -- of every such panel: the call was answered and carried out as `creek` says
 pub record KeptBy (before after : State → State) (call : Call) (answer : Answer) : Type 0 where
   pub kept : (p : State) → Inv (before p) → Kept (before p) call (record { answer = answer; state = after p })
+
+-- a panel of that shop and own number, of which so many of the order are committed
+abbrev pub standing : ℕ → PanelNo → ℕ → State → State
+standing panels own committed p = record {
+  panels = panels;
+  own = own;
+  events = p .events;
+  clock = p .clock;
+  committed = committed;
+  ordered = p .ordered;
+  executed = p .executed;
+  stacked = p .stacked;
+  commits = p .commits;
+  counters = p .counters;
+  held = p .held;
+  known = p .known;
+  awaiting = p .awaiting;
+  clocks = p .clocks;
+  operations = p .operations;
+  contexts = p .contexts;
+  order = p .order;
+  stack = p .stack;
+  registers = p .registers;
+  saved = p .saved;
+  responses = p .responses;
+}
 
 -- ---- fresh
 

@@ -4,8 +4,8 @@ use mathlib.Core.Bool.{false}
 use borrow.Author.Needs.{needs}
 use Rattle.request.specs.Asked.{badAsked}
 use Rattle.entering.proofs.InvokingLaws.{refused-bad, refused-full, refused-none}
-use Rattle.entering.proofs.ask.Statement.{statement}
-use Rattle.entering.proofs.ask.Tie as tie
+use Rattle.entering.proofs.invoke_refusal.Statement.{statement}
+use Rattle.entering.proofs.invoke_refusal.Tie as tie
 
 bad-requires : tie.Need-bad-requires
 bad-requires c κs = search needs
@@ -22,5 +22,5 @@ returns-2 c = refused-full _ _ (asked-good (c .before)) (c .if2 .taken)
 returns-3 : tie.Need-returns-3
 returns-3 c = refused-none _ _ (asked-good (c .before)) (c .if2 .left)
 
-pub ask-spec : {M : Type 1} → statement M
-ask-spec = tie.close (tie.spec bad-requires returns returns-2 returns-3)
+pub invoke-refusal-spec : {M : Type 1} → statement M
+invoke-refusal-spec = tie.close (tie.spec bad-requires returns returns-2 returns-3)
