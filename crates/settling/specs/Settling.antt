@@ -4,20 +4,19 @@ use Prim.Native.Nat.{ℕ}
 use mathlib.Core.Bool.{Bool, not, cond}
 use mathlib.Core.List.{List}
 use lib.Dec.{eqb}
+use denote.Ref.{RefT}
+use denote.Triple.Both.{Both}
 use Rattle.sets.specs.declared.Context.{Context}
 use Rattle.numbers.specs.declared.Number.{Number}
 use Rattle.numbers.specs.Numbers.{noNumber, badNumber}
-use Rattle.sets.specs.Sets.{member, subset, lowestLacking}
+use Rattle.sets.specs.Sets.{setOf, member, subset, lowestLacking}
 use Rattle.request.specs.Refusal as refused
 use Rattle.creek.specs.declared.Answer.{Answer}
 use Rattle.creek.specs.Plan.{met}
 use Rattle.creek.specs.Book.{commit}
 use Rattle.creek.specs.Replies.{stableMark, reply, done, refusedWith}
-use Rattle.replica.specs.declared.Core.{Core}
-use Rattle.replica.specs.declared.CallResult.{CallResult}
-use Rattle.replica.specs.State.{State, packed}
-use Rattle.replica.specs.Promises.{Kept}
-use Rattle.replica.specs.internal.Model.{Inv}
+use Rattle.replica.specs.State.{State}
+use Rattle.replica.specs.internal.Parts.{Asks, KeptBy}
 
 -- by the number alone, with those numbers held: bad number, not here
 unfoldable pub numberRefusal : ℕ → Context → Number → ℕ
@@ -42,19 +41,74 @@ settledAnswer due response = cond due (reply noNumber response stableMark) done
 
 -- ---- over the parts of a panel
 
--- p with that core and the parts that a settlement is lent
-abbrev pub commitParts : State → Core → (held known awaiting operations contexts order stack responses : List ℕ) → State
-commitParts p core held known awaiting operations contexts order stack responses =
-    packed core (p .counters) held known awaiting (p .clocks) operations contexts order stack (p .registers) (p .saved) responses
+-- what is lent to a settlement: the counts of the committed and the executed, the settlements, and the arrays
+pub record Lent : Type 0 where
+  pub committed : ℕ
+  pub executed : ℕ
+  pub commits : ℕ
+  pub held : List ℕ
+  pub known : List ℕ
+  pub awaiting : List ℕ
+  pub operations : List ℕ
+  pub contexts : List ℕ
+  pub order : List ℕ
+  pub stack : List ℕ
+  pub responses : List ℕ
+
+-- what references to them refer to: where they are passed, at a function's entry, and at its exit
+abbrev pub lentNow : (committed executed commits : RefT ℕ) (held known awaiting operations contexts order stack responses : RefT (List ℕ)) → Lent
+lentNow committed executed commits held known awaiting operations contexts order stack responses = record {
+  committed = committed .now;
+  executed = executed .now;
+  commits = commits .now;
+  held = held .now;
+  known = known .now;
+  awaiting = awaiting .now;
+  operations = operations .now;
+  contexts = contexts .now;
+  order = order .now;
+  stack = stack .now;
+  responses = responses .now;
+}
+
+abbrev pub lentEntry : (committed executed commits : Both (RefT ℕ) (RefT ℕ)) (held known awaiting operations contexts order stack responses : Both (RefT (List ℕ)) (RefT (List ℕ))) → Lent
+lentEntry committed executed commits held known awaiting operations contexts order stack responses =
+    lentNow (committed .entry) (executed .entry) (commits .entry) (held .entry) (known .entry) (awaiting .entry) (operations .entry) (contexts .entry) (order .entry) (stack .entry) (responses .entry)
+
+abbrev pub lentExit : (committed executed commits : Both (RefT ℕ) (RefT ℕ)) (held known awaiting operations contexts order stack responses : Both (RefT (List ℕ)) (RefT (List ℕ))) → Lent
+lentExit committed executed commits held known awaiting operations contexts order stack responses =
+    lentNow (committed .exit) (executed .exit) (commits .exit) (held .exit) (known .exit) (awaiting .exit) (operations .exit) (contexts .exit) (order .exit) (stack .exit) (responses .exit)
+
+-- a panel of a shop of so many panels, with so many in the order, and those parts
+abbrev pub commitParts : ℕ → ℕ → Lent → State → State
+commitParts panels ordered l p = record {
+  panels = panels;
+  own = p .own;
+  events = p .events;
+  clock = p .clock;
+  committed = l .committed;
+  ordered = ordered;
+  executed = l .executed;
+  stacked = p .stacked;
+  commits = l .commits;
+  counters = p .counters;
+  held = setOf (l .held);
+  known = setOf (l .known);
+  awaiting = setOf (l .awaiting);
+  clocks = p .clocks;
+  operations = l .operations;
+  contexts = l .contexts;
+  order = l .order;
+  stack = l .stack;
+  registers = p .registers;
+  saved = p .saved;
+  responses = l .responses;
+}
 
 -- they are the parts of a panel that came from fresh and the calls
-pub record CommitAsks (core : Core) (held known awaiting operations contexts order stack responses : List ℕ) : Type 0 where
-  pub panel : State
-  pub invariant : Inv (commitParts panel core held known awaiting operations contexts order stack responses)
+abbrev pub CommitAsks : ℕ → ℕ → Lent → Type 0
+CommitAsks panels ordered l = Asks (commitParts panels ordered l)
 
--- of every such panel: the settlement was answered and carried out as `creek` says
-pub record CommitKept (core : Core) (held known awaiting operations contexts order stack responses : List ℕ) (n : Number)
-    (known′ awaiting′ order′ : List ℕ) (r : CallResult) : Type 0 where
-  pub kept : (p : State) → Inv (commitParts p core held known awaiting operations contexts order stack responses)
-      → Kept (commitParts p core held known awaiting operations contexts order stack responses) (commit n)
-      (record { answer = r .answer; state = commitParts p (r .core) held known′ awaiting′ operations contexts order′ stack responses })
+-- of every such panel: the settlement with that answer was carried out as `creek` says
+abbrev pub CommitKept : ℕ → ℕ → Lent → Number → Lent → Answer → Type 0
+CommitKept panels ordered l n l′ a = KeptBy (commitParts panels ordered l) (commitParts panels ordered l′) (commit n) a

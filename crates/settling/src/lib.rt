@@ -1,21 +1,26 @@
 // Settle: a held strong request is committed, and with it, before it, the tentative requests that its context names.
+//
+// The call is given the numbers of a panel that it reads, and lent the counts that it changes and the arrays that it uses.
 use creek::Answer;
+use creek::Reply;
 use creek::mark::NOBODY;
 use creek::mark::STABLE;
 use numbers::Number;
-use replica::CallResult;
-use replica::Core;
 use request::refusal;
 use sets::Context;
 ghost use mathlib.Core.Path.{_≡_};
 ghost use Rattle.sets.specs.Sets.{setOf};
-ghost use Rattle.request.specs.Refusal as refusedBy;
-ghost use Rattle.creek.specs.Replies.{refusedWith};
-ghost use Rattle.settling.specs.Settling.{numberRefusal, heldAnswer, agreed, settledAnswer, CommitAsks, CommitKept};
+ghost use Rattle.creek.specs.Replies.{replyAnswer};
+ghost use Rattle.settling.specs.Settling.{numberRefusal, heldAnswer, agreed, settledAnswer};
+ghost use Rattle.settling.specs.Settling.{lentNow, lentEntry, lentExit, CommitAsks, CommitKept};
 
 // Settle the request of number n.
 pub fn commit<'a>(
-    core: Core,
+    panels: u8,
+    committed: &mut usize,
+    ordered: usize,
+    executed: &mut usize,
+    commits: &mut u32,
     held: &'a [u64; 8],
     known: &mut [u64; 8],
     awaiting: &mut [u64; 8],
@@ -25,51 +30,89 @@ pub fn commit<'a>(
     stack: &'a [u16; 512],
     responses: &'a [u32; 512],
     n: Number,
-) -> CallResult
-    requires { ⌜ CommitAsks core (now held) (now known) (now awaiting) (now operations) (now contexts) (now order) (now stack)
-        (now responses) ⌝ }
-    ensures { λ r. ⌜ CommitKept core (now (held .entry)) (now (known .entry)) (now (awaiting .entry)) (now (operations .entry))
-        (now (contexts .entry)) (now (order .entry)) (now (stack .entry)) (now (responses .entry)) n
-        (now (known .exit)) (now (awaiting .exit)) (now (order .exit)) r ⌝ }
+) -> Reply
+    requires { ⌜ CommitAsks panels ordered
+        (lentNow committed executed commits held known awaiting operations contexts order stack responses) ⌝ }
+    ensures { λ r. ⌜ CommitKept panels ordered
+        (lentEntry committed executed commits held known awaiting operations contexts order stack responses) n
+        (lentExit committed executed commits held known awaiting operations contexts order stack responses) (replyAnswer r) ⌝ }
 {
-    let refusal = number_refusal(core.panels, held, n);
+    let refusal = number_refusal(panels, held, n);
     if refusal != refusal::ACCEPTED {
-        let answer = replica::refused(refusal);
-        return CallResult { core, answer };
+        return replica::refusing(refusal);
     }
     let slot = numbers::slot_of(n);
     let asked = store::asked_at(operations, slot as usize);
     let context = store::context_at(contexts, slot as usize);
     let knows = *known;
-    let answer = held_answer(asked.strong, context, Context { words: knows }, n);
-    if answer.refusal != refusal::ACCEPTED {
-        return CallResult { core, answer };
+    let judged = held_reply(asked.strong, context, Context { words: knows }, n);
+    if judged.refusal != refusal::ACCEPTED {
+        return judged;
     }
-    let from = core.committed;
-    let to = core.ordered;
+    let from = *committed;
+    let before = *executed;
     let words = context.words;
-    let settled = slots::settle_order(order, from, to, &words, slot);
-    let committed = settled.committed;
+    let settled = slots::settle_order(order, from, ordered, &words, slot);
+    let count = settled.committed;
     // What is executed agrees with the order up to where the settlement changes it, and behind the last slot that it moves.
-    let same = replica::lower(core.executed, from);
-    let last = replica::lower(core.executed, settled.end);
-    let start = slots::common_start(stack, last, order, to, same);
-    let executed = agreed(core.executed, last, start);
+    let same = replica::lower(before, from);
+    let last = replica::lower(before, settled.end);
+    let start = slots::common_start(stack, last, order, ordered, same);
+    let stays = agreed(before, last, start);
     // The request is the last committed: it stays executed where the mark lies behind it, and its response was kept at its place.
-    let response = responses[committed - 1];
+    let response = responses[count - 1];
     let awaited = store::member(awaiting, n);
-    let due = awaited & (committed <= executed);
+    let due = awaited & (count <= stays);
     store::join(known, n);
-    let answer = settled_answer(due, response);
-    replica::end_waiting(awaiting, n, answer.mark);
-    let mut after = core;
-    after.committed = committed;
-    after.executed = executed;
-    after.commits = core.commits + 1;
-    CallResult {
-        core: after,
-        answer,
-    }
+    let reply = settled_reply(due, response);
+    replica::end_waiting(awaiting, n, reply.mark);
+    *committed = count;
+    *executed = stays;
+    let settlements = *commits;
+    *commits = settlements + 1;
+    reply
+}
+
+// The same, with its answer.
+pub fn commit_answer<'a>(
+    panels: u8,
+    committed: &mut usize,
+    ordered: usize,
+    executed: &mut usize,
+    commits: &mut u32,
+    held: &'a [u64; 8],
+    known: &mut [u64; 8],
+    awaiting: &mut [u64; 8],
+    operations: &'a [u64; 512],
+    contexts: &'a [u64; 4096],
+    order: &mut [u16; 512],
+    stack: &'a [u16; 512],
+    responses: &'a [u32; 512],
+    n: Number,
+) -> Answer
+    requires { ⌜ CommitAsks panels ordered
+        (lentNow committed executed commits held known awaiting operations contexts order stack responses) ⌝ }
+    ensures { λ a. ⌜ CommitKept panels ordered
+        (lentEntry committed executed commits held known awaiting operations contexts order stack responses) n
+        (lentExit committed executed commits held known awaiting operations contexts order stack responses) a ⌝ }
+{
+    let reply = commit(
+        panels,
+        committed,
+        ordered,
+        executed,
+        commits,
+        held,
+        known,
+        awaiting,
+        operations,
+        contexts,
+        order,
+        stack,
+        responses,
+        n,
+    );
+    replica::answer_of(reply)
 }
 
 // The refusal of a settlement by its number alone, with those numbers held.
@@ -85,36 +128,28 @@ fn number_refusal(panels: u8, held: &[u64; 8], n: Number) -> u8
     refusal::ACCEPTED
 }
 
-// The answer that refuses the settlement of the request of that strength and context held under the number n, with those numbers known, or
+// The reply that refuses the settlement of the request of that strength and context held under the number n, with those numbers known, or
 // no refusal.
-fn held_answer(strong: bool, context: Context, known: Context, n: Number) -> Answer
-    ensures { λ a. ⌜ a ≡ heldAnswer strong context known n ⌝ }
+fn held_reply(strong: bool, context: Context, known: Context, n: Number) -> Reply
+    ensures { λ r. ⌜ replyAnswer r ≡ heldAnswer strong context known n ⌝ }
 {
     if !strong {
-        return replica::refused(refusal::WEAK);
+        return replica::refusing(refusal::WEAK);
     }
     // A held strong request is known exactly where it is committed.
     if sets::member(known, n) {
-        return replica::refused(refusal::SETTLED_ALREADY);
+        return replica::refusing(refusal::SETTLED_ALREADY);
     }
     if !sets::is_subset(context, known) {
         let missing = sets::lowest_lacking(context, known);
-        return waiting(missing);
+        return Reply {
+            response: 0,
+            number: missing,
+            mark: NOBODY,
+            refusal: refusal::WAITS,
+        };
     }
-    replica::done()
-}
-
-// The answer of refusal 12, which names the missing number.
-fn waiting(missing: Number) -> Answer
-    ensures { λ a. ⌜ a ≡ refusedWith refusedBy.waits missing ⌝ }
-{
-    Answer {
-        refusal: refusal::WAITS,
-        request: request::none(),
-        number: missing,
-        response: 0,
-        mark: NOBODY,
-    }
+    replica::refusing(refusal::ACCEPTED)
 }
 
 // How many stay executed where the comparison up to `last`, behind which all agree, ended at `start`: all where it came to `last`, else
@@ -128,13 +163,17 @@ fn agreed(executed: usize, last: usize, start: usize) -> usize
     start
 }
 
-// The answer of an accepted settlement: where a stable reply is due, that with the response.
-fn settled_answer(due: bool, response: u32) -> Answer
-    ensures { λ a. ⌜ a ≡ settledAnswer due response ⌝ }
+// The reply of an accepted settlement: where a stable reply is due, that with the response.
+fn settled_reply(due: bool, response: u32) -> Reply
+    ensures { λ r. ⌜ replyAnswer r ≡ settledAnswer due response ⌝ }
 {
-    let none = numbers::none();
     if due {
-        return replica::reply(none, response, STABLE);
+        return Reply {
+            response,
+            number: numbers::none(),
+            mark: STABLE,
+            refusal: refusal::ACCEPTED,
+        };
     }
-    replica::reply(none, 0, NOBODY)
+    replica::refusing(refusal::ACCEPTED)
 }

@@ -81,8 +81,11 @@ at-least-requires c κs = search needs
 add-event : tie.Need-add-event
 add-event c =
     let a = start (judged c) in
-    omega (arith, events-left (lent a (a .pre .panel)) (a .args .i) (a .pre .invariant) _ (judged c .invoke-refusal .ensures)
-    (c .before .before .if1 .left))
+    omega (
+      arith,
+      events-left (lent a (a .pre .panel)) (a .args .i) (a .pre .invariant) _ (judged c .invoke-refusal .ensures)
+          (c .before .before .if1 .left),
+    )
 
 slot-of-requires : tie.Need-slot-of-requires
 slot-of-requires c κs = search needs

@@ -12,7 +12,8 @@ use Rattle.sets.specs.Sets.{setOf}
 use Rattle.creek.specs.internal.Sound.{mostRequests}
 use Rattle.replica.specs.State.{State}
 use Rattle.replica.specs.internal.Model.{Inv}
-use Rattle.settling.specs.Settling.{heldAnswer, commitParts}
+use Rattle.creek.specs.Replies.{replyAnswer}
+use Rattle.settling.specs.Settling.{heldAnswer, lentNow, commitParts}
 use Rattle.settling.proofs.SettlingHeldLaws.{HeldAt, held-slot}
 use Rattle.settling.proofs.SettlingRefusalLaws.{kept-by-number, number-passed, Settles, kept-by-held, settles}
 use Rattle.settling.proofs.SettlingLaws.{commits-fit, commit-asks, start-asks, settled-kept}
@@ -35,7 +36,7 @@ slotted c = read c .before .before
 
 -- past both tests, from where the order is settled
 abbrev tested : tie.After-settle-order → tie.Else2
-tested c = c .before .before .before .before
+tested c = c .before .before .before .before .before .before
 
 -- where the order is settled, from where the last place to compare is known
 abbrev settled : tie.After-lower2 → tie.After-settle-order
@@ -55,9 +56,9 @@ joined c = c .before .before .before
 
 -- a panel with the parts lent
 abbrev lent : tie.Start → State → State
-lent a p =
-    commitParts p (a .args .core) (a .args .held .now) (a .args .known .now) (a .args .awaiting .now) (a .args .operations .now)
-    (a .args .contexts .now) (a .args .order .now) (a .args .stack .now) (a .args .responses .now)
+lent a =
+    commitParts (a .args .panels) (a .args .ordered) (lentNow (a .args .committed) (a .args .executed) (a .args .commits) (a .args .held)
+    (a .args .known) (a .args .awaiting) (a .args .operations) (a .args .contexts) (a .args .order) (a .args .stack) (a .args .responses))
 
 -- ---- what is known there
 
@@ -70,16 +71,16 @@ slot-of-is : (c : tie.After-slot-of) → IsSlot (c .slot-of .result)
 slot-of-is c = let a = start c in held-slot {p = lent a (a .pre .panel)} (a .pre .invariant) (held-at c (a .pre .panel) (a .pre .invariant))
 
 -- the answer by what is kept at the slot
-answer-is : (c : tie.After-held-answer)
+answer-is : (c : tie.After-held-reply)
     → let at = c .before .before in
     let slot = at .before .before in
     let a = start slot in
-    c .held-answer .result
+    replyAnswer (c .held-reply .result)
     ≡ heldAnswer (askedIn (getD (a .args .operations .now) (slot .slot-of .result) 0) .strong)
     (contextAt (a .args .contexts .now) (slot .slot-of .result)) (setOf (a .args .known .now)) (a .args .n)
 answer-is c =
     let at = c .before .before in
-    c .held-answer .ensures ∙ rw (at .before .asked-at .ensures, at .context-at .ensures)
+    c .held-reply .ensures ∙ rw (at .before .asked-at .ensures, at .context-at .ensures)
 
 -- past the second it is to be settled
 to-settle : (c : tie.Else2) (p : State) → let slot = slotted c in Inv (lent (start slot) p)
@@ -92,7 +93,7 @@ to-settle c p inv =
 settled-by : (c : tie.After-settle-order)
     → let slot = slotted (tested c) in
     let a = start slot in
-    Settled (a .args .order .now) (a .args .core .committed) (a .args .core .ordered)
+    Settled (a .args .order .now) (a .args .committed .now) (a .args .ordered)
     (contextAt (a .args .contexts .now) (slot .slot-of .result) .words) (slot .slot-of .result) (c .settle-order .last .0)
     (c .settle-order .result .committed) (c .settle-order .result .end)
 settled-by c = rw (read (tested c) .context-at .ensures) at (c .settle-order .ensures)
@@ -106,14 +107,16 @@ committed-fits c = omega (arith, settled-by c, start (slotted (tested c)) .pre .
 number-refusal-requires : tie.Need-number-refusal-requires
 number-refusal-requires c κs = search needs
 
-refused-requires : tie.Need-refused-requires
-refused-requires c κs = search needs
+refusing-requires : tie.Need-refusing-requires
+refusing-requires c κs = search needs
 
 returns : tie.Need-returns
 returns c =
     let a = c .before .before .before in
     record {
-      kept = λ p inv. kept-by-number {p = lent a p} inv (c .before .before .number-refusal .ensures) (c .before .if1 .taken) (c .refused .ensures);
+      kept = λ p inv.
+          kept-by-number {p = lent a p} inv (c .before .before .number-refusal .ensures) (c .before .if1 .taken)
+          (ap replyAnswer (c .refusing .ensures));
     }
 
 slot-of-requires : tie.Need-slot-of-requires
@@ -131,8 +134,8 @@ cast-context-at c = search needs
 context-at-requires : tie.Need-context-at-requires
 context-at-requires c κs = let slot = c .before in (slot-of-is slot, start slot .pre .invariant .lengths .requests .contexts)
 
-held-answer-requires : tie.Need-held-answer-requires
-held-answer-requires c κs = search needs
+held-reply-requires : tie.Need-held-reply-requires
+held-reply-requires c κs = search needs
 
 returns-2 : tie.Need-returns-2
 returns-2 c =
@@ -144,7 +147,7 @@ returns-2 c =
 
 settle-order-requires : tie.Need-settle-order-requires
 settle-order-requires c κs =
-    let else = c .before .before .before in
+    let else = c .before .before .before .before .before in
     let slot = slotted else in
     let a = start slot in
     rw (read else .context-at .ensures)
@@ -188,14 +191,14 @@ member-requires c κs = search needs
 join-requires : tie.Need-join-requires
 join-requires c κs = search needs
 
-settled-answer-requires : tie.Need-settled-answer-requires
-settled-answer-requires c κs = search needs
+settled-reply-requires : tie.Need-settled-reply-requires
+settled-reply-requires c κs = search needs
 
 end-waiting-requires : tie.Need-end-waiting-requires
 end-waiting-requires c κs = search needs
 
-add-after : tie.Need-add-after
-add-after c =
+add-commits : tie.Need-add-commits
+add-commits c =
     let a = start (slotted (tested (settled (bounded (adjusted (joined (c .before))))))) in
     omega (arith, commits-fit (lent a (a .pre .panel)) (a .pre .invariant))
 
@@ -220,7 +223,7 @@ returns-3 c =
           (ap (λ (b : Bool). b && leb (order .settle-order .result .committed) (execution .agreed .result))
           (known .before .before .member .ensures))
           (known .join .ensures)
-          (left .before .before .settled-answer .ensures)
+          (left .before .before .settled-reply .ensures)
           (left .end-waiting .ensures);
     }
 
@@ -229,14 +232,14 @@ commit-spec =
     tie.close
     (tie.spec
     number-refusal-requires
-    refused-requires
+    refusing-requires
     returns
     slot-of-requires
     cast-asked-at
     asked-at-requires
     cast-context-at
     context-at-requires
-    held-answer-requires
+    held-reply-requires
     returns-2
     settle-order-requires
     lower-requires
@@ -248,7 +251,7 @@ commit-spec =
     element-copy-out-response
     member-requires
     join-requires
-    settled-answer-requires
+    settled-reply-requires
     end-waiting-requires
-    add-after
+    add-commits
     returns-3)
