@@ -3,31 +3,100 @@
 // The panel's parts are lent as in `entering` and `settling`, whose calls these are. `Intake` of `specs/` says what a message stands for and
 // what receiving promises, `Found` which messages are found in a run of bytes.
 use creek::Answer;
+use creek::Reply;
+use numbers::PanelNo;
 use replica::CallResult;
 use replica::Core;
 use request::refusal;
 use wire::Message;
 use wire::Subject;
 ghost use mathlib.Core.Path.{_≡_};
+ghost use Rattle.creek.specs.Replies.{replyAnswer};
 ghost use Rattle.wire.specs.Message.{said};
 ghost use Rattle.wire.specs.Reader.{readAt};
-ghost use Rattle.intake.specs.internal.Parts.{TakeAsks, Taken, nothing, ReceiveKept};
+ghost use Rattle.intake.specs.internal.Parts.{lentNow, lentEntry, lentExit, TakeAsks, Taken, nothing, ReceiveKept};
+ghost use Rattle.intake.specs.internal.Parts.{TakeCoreAsks, TakenByCore};
 
-// What the message at a place led to: its bytes, 0 where none could be read, and the answer.
+// What the message at a place led to: the answer, and the message's bytes, 0 where none could be read.
 #[repr(C)]
 pub struct Receipt {
     pub answer: Answer,
     pub taken: usize,
 }
 
-// What receive returns: the core after it and what the message led to.
-pub struct ReceiveResult {
-    pub core: Core,
-    pub receipt: Receipt,
-}
-
 // A request is heard, a settlement is settled.
 pub fn take<'a>(
+    panels: u8,
+    own: PanelNo,
+    committed: &mut usize,
+    ordered: &mut usize,
+    executed: &mut usize,
+    commits: &mut u32,
+    held: &mut [u64; 8],
+    known: &mut [u64; 8],
+    awaiting: &mut [u64; 8],
+    clocks: &mut [u32; 512],
+    operations: &mut [u64; 512],
+    contexts: &mut [u64; 4096],
+    order: &mut [u16; 512],
+    stack: &'a [u16; 512],
+    responses: &'a [u32; 512],
+    m: Message,
+) -> Reply
+    requires { ⌜ TakeAsks panels own
+        (lentNow committed ordered executed commits held known awaiting clocks operations contexts order stack responses) ⌝ }
+    ensures { λ r. ⌜ Taken panels own
+        (lentEntry committed ordered executed commits held known awaiting clocks operations contexts order stack responses) (said m)
+        (lentExit committed ordered executed commits held known awaiting clocks operations contexts order stack responses) (replyAnswer r) ⌝ }
+{
+    let x = m.request;
+    let subject = m.subject;
+    match subject {
+        Subject::Request => {
+            let settled = *committed;
+            let refusal = entering::deliver(
+                panels,
+                own,
+                settled,
+                ordered,
+                executed,
+                held,
+                known,
+                clocks,
+                operations,
+                contexts,
+                order,
+                x.number,
+                x.clock,
+                x.asked,
+                &x.context.words,
+            );
+            replica::refusing(refusal)
+        }
+        Subject::Settlement => {
+            let standing = *ordered;
+            settling::commit(
+                panels,
+                committed,
+                standing,
+                executed,
+                commits,
+                held,
+                known,
+                awaiting,
+                operations,
+                contexts,
+                order,
+                stack,
+                responses,
+                x.number,
+            )
+        }
+    }
+}
+
+// The same for a caller that has a panel's numbers by value.
+pub fn take_with_core<'a>(
     core: Core,
     held: &mut [u64; 8],
     known: &mut [u64; 8],
@@ -40,38 +109,44 @@ pub fn take<'a>(
     responses: &'a [u32; 512],
     m: Message,
 ) -> CallResult
-    requires { ⌜ TakeAsks core (now held) (now known) (now awaiting) (now clocks) (now operations) (now contexts) (now order)
+    requires { ⌜ TakeCoreAsks core (now held) (now known) (now awaiting) (now clocks) (now operations) (now contexts) (now order)
         (now stack) (now responses) ⌝ }
-    ensures { λ r. ⌜ Taken core (now (held .entry)) (now (known .entry)) (now (awaiting .entry)) (now (clocks .entry))
+    ensures { λ r. ⌜ TakenByCore core (now (held .entry)) (now (known .entry)) (now (awaiting .entry)) (now (clocks .entry))
         (now (operations .entry)) (now (contexts .entry)) (now (order .entry)) (now (stack .entry)) (now (responses .entry)) (said m)
         (now (held .exit)) (now (known .exit)) (now (awaiting .exit)) (now (clocks .exit)) (now (operations .exit))
         (now (contexts .exit)) (now (order .exit)) r ⌝ }
 {
-    let x = m.request;
-    let subject = m.subject;
-    match subject {
-        Subject::Request => entering::deliver(
-            core,
-            held,
-            known,
-            clocks,
-            operations,
-            contexts,
-            order,
-            x,
-        ),
-        Subject::Settlement => settling::commit(
-            core,
-            held,
-            known,
-            awaiting,
-            operations,
-            contexts,
-            order,
-            stack,
-            responses,
-            x.number,
-        ),
+    let mut committed = core.committed;
+    let mut ordered = core.ordered;
+    let mut executed = core.executed;
+    let mut commits = core.commits;
+    let reply = take(
+        core.panels,
+        core.own,
+        &mut committed,
+        &mut ordered,
+        &mut executed,
+        &mut commits,
+        held,
+        known,
+        awaiting,
+        clocks,
+        operations,
+        contexts,
+        order,
+        stack,
+        responses,
+        m,
+    );
+    let mut after = core;
+    after.committed = committed;
+    after.ordered = ordered;
+    after.executed = executed;
+    after.commits = commits;
+    let answer = replica::answer_of(reply);
+    CallResult {
+        core: after,
+        answer,
     }
 }
 
@@ -79,7 +154,12 @@ pub fn take<'a>(
 pub fn receive<'a>(
     bytes: &[u8],
     at: usize,
-    core: Core,
+    panels: u8,
+    own: PanelNo,
+    committed: &mut usize,
+    ordered: &mut usize,
+    executed: &mut usize,
+    commits: &mut u32,
     held: &mut [u64; 8],
     known: &mut [u64; 8],
     awaiting: &mut [u64; 8],
@@ -89,20 +169,24 @@ pub fn receive<'a>(
     order: &mut [u16; 512],
     stack: &'a [u16; 512],
     responses: &'a [u32; 512],
-) -> ReceiveResult
-    requires { ⌜ TakeAsks core (now held) (now known) (now awaiting) (now clocks) (now operations) (now contexts) (now order)
-        (now stack) (now responses) ⌝ }
-    ensures { λ r. ⌜ ReceiveKept core (now (held .entry)) (now (known .entry)) (now (awaiting .entry)) (now (clocks .entry))
-        (now (operations .entry)) (now (contexts .entry)) (now (order .entry)) (now (stack .entry)) (now (responses .entry))
-        (readAt (now (bytes .entry)) at) (now (held .exit)) (now (known .exit)) (now (awaiting .exit)) (now (clocks .exit))
-        (now (operations .exit)) (now (contexts .exit)) (now (order .exit)) r ⌝ }
+) -> Receipt
+    requires { ⌜ TakeAsks panels own
+        (lentNow committed ordered executed commits held known awaiting clocks operations contexts order stack responses) ⌝ }
+    ensures { λ r. ⌜ ReceiveKept panels own
+        (lentEntry committed ordered executed commits held known awaiting clocks operations contexts order stack responses) (readAt (now (bytes .entry)) at)
+        (lentExit committed ordered executed commits held known awaiting clocks operations contexts order stack responses) r ⌝ }
 {
     let reading = wire::read(bytes, at);
     let found = reading.answer;
     match found {
         wire::ReadAnswer::Message => {
-            let called = take(
-                core,
+            let reply = take(
+                panels,
+                own,
+                committed,
+                ordered,
+                executed,
+                commits,
                 held,
                 known,
                 awaiting,
@@ -114,27 +198,21 @@ pub fn receive<'a>(
                 responses,
                 reading.message,
             );
-            let after = called.core;
-            let answer = called.answer;
-            let receipt = Receipt {
-                taken: reading.taken,
+            let answer = replica::answer_of(reply);
+            Receipt {
                 answer,
-            };
-            ReceiveResult {
-                core: after,
-                receipt,
+                taken: reading.taken,
             }
         }
-        wire::ReadAnswer::End => untaken(core, refusal::ACCEPTED),
-        wire::ReadAnswer::Refused(refusal) => untaken(core, refusal),
+        wire::ReadAnswer::End => untaken(refusal::ACCEPTED),
+        wire::ReadAnswer::Refused(refusal) => untaken(refusal),
     }
 }
 
 // Nothing was taken in, by that refusal.
-fn untaken(core: Core, refusal: u8) -> ReceiveResult
-    ensures { λ r. ⌜ r ≡ nothing core refusal ⌝ }
+fn untaken(refusal: u8) -> Receipt
+    ensures { λ r. ⌜ r ≡ nothing refusal ⌝ }
 {
     let answer = replica::refused(refusal);
-    let receipt = Receipt { taken: 0, answer };
-    ReceiveResult { core, receipt }
+    Receipt { answer, taken: 0 }
 }

@@ -5,8 +5,8 @@ use Rattle.intake.proofs.receive.Statement.{statement}
 use Rattle.intake.proofs.receive.Tie as tie
 
 -- where the reader's answer is known to be a message
-abbrev told : tie.After-take → tie.After-enum-told
-told c = c .before .before .before .before .before .before .before .before
+abbrev told : tie.After-take-arg11 → tie.After-enum-told
+told c = c .before .before .before .before .before .before .before .before .before .before .before
 
 read-requires : tie.Need-read-requires
 read-requires c κs = search needs
@@ -15,7 +15,10 @@ enum-told : tie.Need-enum-told
 enum-told c = search needs
 
 take-requires : tie.Need-take-requires
-take-requires c κs = search needs
+take-requires c κs = told c .before .before .before .before .pre
+
+answer-of-requires : tie.Need-answer-of-requires
+answer-of-requires c κs = search needs
 
 enum-told-2 : tie.Need-enum-told-2
 enum-told-2 c = search needs
@@ -31,9 +34,11 @@ untaken-requires-2 c κs = search needs
 
 returns : tie.Need-returns
 returns c =
-    let taken = c .before .before in
-    let read = told taken .before .before in
-    receive-message (read .read .result) (read .read .ensures) (told taken .enum-told .given .1) (taken .take .ensures)
+    let taken = c .before in
+    let message = told (taken .before) in
+    let read = message .before .before in
+    rw (c .answer-of .ensures)
+    (receive-message (read .read .result) (read .read .ensures) (message .enum-told .given .1) (taken .take .ensures))
 
 returns-2 : tie.Need-returns-2
 returns-2 c =
@@ -52,6 +57,7 @@ receive-spec =
     read-requires
     enum-told
     take-requires
+    answer-of-requires
     enum-told-2
     untaken-requires
     enum-known-found

@@ -1,45 +1,125 @@
 -- What taking in a message asks and promises over the parts of a panel that it is lent.
 use Prim.Native.Nat.{ℕ}
 use mathlib.Core.List.{List}
+use denote.Ref.{RefT}
+use denote.Triple.Both.{Both}
+use Rattle.numbers.specs.declared.PanelNo.{PanelNo}
 use Rattle.numbers.specs.Numbers.{noNumber}
-use Rattle.creek.specs.Calls.{answer}
+use Rattle.sets.specs.Sets.{setOf}
+use Rattle.creek.specs.declared.Answer.{Answer}
 use Rattle.creek.specs.Replies.{refusedWith}
 use Rattle.replica.specs.declared.Core.{Core}
 use Rattle.replica.specs.declared.CallResult.{CallResult}
 use Rattle.replica.specs.State.{State, packed}
-use Rattle.replica.specs.Promises.{Kept}
 use Rattle.replica.specs.internal.Model.{Inv}
+use Rattle.replica.specs.internal.Parts.{Asks, KeptBy}
 use Rattle.wire.specs.Message.{BusMessage}
 use Rattle.wire.specs.Reader.{Outcome}
-use Rattle.intake.specs.declared.ReceiveResult.{ReceiveResult}
+use Rattle.intake.specs.declared.Receipt.{Receipt}
 use Rattle.intake.specs.Intake.{callOf, Received}
 
--- nothing was taken in by a panel with that core, by that refusal
-abbrev pub nothing : Core → ℕ → ReceiveResult
-nothing core w = record { core = core; receipt = record { taken = 0; answer = refusedWith w noNumber } }
+-- what is lent: the counts that a delivery or a settlement changes, and the arrays
+pub record Lent : Type 0 where
+  pub committed : ℕ
+  pub ordered : ℕ
+  pub executed : ℕ
+  pub commits : ℕ
+  pub held : List ℕ
+  pub known : List ℕ
+  pub awaiting : List ℕ
+  pub clocks : List ℕ
+  pub operations : List ℕ
+  pub contexts : List ℕ
+  pub order : List ℕ
+  pub stack : List ℕ
+  pub responses : List ℕ
 
--- p with that core and the parts that taking in a message is lent
-abbrev pub takeParts : State → Core → (held known awaiting clocks operations contexts order stack responses : List ℕ) → State
-takeParts p core held known awaiting clocks operations contexts order stack responses =
-    packed core (p .counters) held known awaiting clocks operations contexts order stack (p .registers) (p .saved) responses
+-- what references to them refer to: where they are passed, at a function's entry, and at its exit
+abbrev pub lentNow : (committed ordered executed commits : RefT ℕ) (held known awaiting clocks operations contexts order stack responses : RefT (List ℕ)) → Lent
+lentNow committed ordered executed commits held known awaiting clocks operations contexts order stack responses = record {
+  committed = committed .now;
+  ordered = ordered .now;
+  executed = executed .now;
+  commits = commits .now;
+  held = held .now;
+  known = known .now;
+  awaiting = awaiting .now;
+  clocks = clocks .now;
+  operations = operations .now;
+  contexts = contexts .now;
+  order = order .now;
+  stack = stack .now;
+  responses = responses .now;
+}
+
+abbrev pub lentEntry : (committed ordered executed commits : Both (RefT ℕ) (RefT ℕ))
+    (held known awaiting clocks operations contexts order stack responses : Both (RefT (List ℕ)) (RefT (List ℕ))) → Lent
+lentEntry committed ordered executed commits held known awaiting clocks operations contexts order stack responses =
+    lentNow (committed .entry) (ordered .entry) (executed .entry) (commits .entry) (held .entry) (known .entry) (awaiting .entry)
+    (clocks .entry) (operations .entry) (contexts .entry) (order .entry) (stack .entry) (responses .entry)
+
+abbrev pub lentExit : (committed ordered executed commits : Both (RefT ℕ) (RefT ℕ))
+    (held known awaiting clocks operations contexts order stack responses : Both (RefT (List ℕ)) (RefT (List ℕ))) → Lent
+lentExit committed ordered executed commits held known awaiting clocks operations contexts order stack responses =
+    lentNow (committed .exit) (ordered .exit) (executed .exit) (commits .exit) (held .exit) (known .exit) (awaiting .exit) (clocks .exit)
+    (operations .exit) (contexts .exit) (order .exit) (stack .exit) (responses .exit)
+
+-- a panel of that shop and own number, with those parts
+abbrev pub takeParts : ℕ → PanelNo → Lent → State → State
+takeParts panels own l p = record {
+  panels = panels;
+  own = own;
+  events = p .events;
+  clock = p .clock;
+  committed = l .committed;
+  ordered = l .ordered;
+  executed = l .executed;
+  stacked = p .stacked;
+  commits = l .commits;
+  counters = p .counters;
+  held = setOf (l .held);
+  known = setOf (l .known);
+  awaiting = setOf (l .awaiting);
+  clocks = l .clocks;
+  operations = l .operations;
+  contexts = l .contexts;
+  order = l .order;
+  stack = l .stack;
+  registers = p .registers;
+  saved = p .saved;
+  responses = l .responses;
+}
 
 -- they are the parts of a panel that came from fresh and the calls
-pub record TakeAsks (core : Core) (held known awaiting clocks operations contexts order stack responses : List ℕ) : Type 0 where
-  pub panel : State
-  pub invariant : Inv (takeParts panel core held known awaiting clocks operations contexts order stack responses)
+abbrev pub TakeAsks : ℕ → PanelNo → Lent → Type 0
+TakeAsks panels own l = Asks (takeParts panels own l)
 
 -- of every such panel: the call that the message m stands for was answered and carried out as `creek` says
-pub record Taken (core : Core) (held known awaiting clocks operations contexts order stack responses : List ℕ) (m : BusMessage)
-    (held′ known′ awaiting′ clocks′ operations′ contexts′ order′ : List ℕ) (r : CallResult) : Type 0 where
-  pub kept : (p : State) → Inv (takeParts p core held known awaiting clocks operations contexts order stack responses)
-      → Kept (takeParts p core held known awaiting clocks operations contexts order stack responses) (callOf m) (record {
-        answer = r .answer;
-        state = takeParts p (r .core) held′ known′ awaiting′ clocks′ operations′ contexts′ order′ stack responses;
-      })
+abbrev pub Taken : ℕ → PanelNo → Lent → BusMessage → Lent → Answer → Type 0
+Taken panels own l m l′ a = KeptBy (takeParts panels own l) (takeParts panels own l′) (callOf m) a
 
 -- of every such panel: what stands at the place was received
-pub record ReceiveKept (core : Core) (held known awaiting clocks operations contexts order stack responses : List ℕ) (o : Outcome)
-    (held′ known′ awaiting′ clocks′ operations′ contexts′ order′ : List ℕ) (r : ReceiveResult) : Type 0 where
-  pub kept : (p : State) → Inv (takeParts p core held known awaiting clocks operations contexts order stack responses)
-      → Received (takeParts p core held known awaiting clocks operations contexts order stack responses) o (r .receipt)
-      (takeParts p (r .core) held′ known′ awaiting′ clocks′ operations′ contexts′ order′ stack responses)
+pub record ReceiveKept (panels : ℕ) (own : PanelNo) (l : Lent) (o : Outcome) (l′ : Lent) (r : Receipt) : Type 0 where
+  pub kept : (p : State) → Inv (takeParts panels own l p) → Received (takeParts panels own l p) o r (takeParts panels own l′ p)
+
+-- nothing was taken in, by that refusal
+abbrev pub nothing : ℕ → Receipt
+nothing w = record { answer = refusedWith w noNumber; taken = 0 }
+
+-- ---- for a caller that has a panel's numbers by value
+
+-- a panel with that core and those arrays
+abbrev pub coreParts : Core → (held known awaiting clocks operations contexts order stack responses : List ℕ) → State → State
+coreParts core held known awaiting clocks operations contexts order stack responses p =
+    packed core (p .counters) held known awaiting clocks operations contexts order stack (p .registers) (p .saved) responses
+
+abbrev pub TakeCoreAsks : Core → (held known awaiting clocks operations contexts order stack responses : List ℕ) → Type 0
+TakeCoreAsks core held known awaiting clocks operations contexts order stack responses =
+    Asks (coreParts core held known awaiting clocks operations contexts order stack responses)
+
+abbrev pub TakenByCore : Core → (held known awaiting clocks operations contexts order stack responses : List ℕ) → BusMessage
+    → (held′ known′ awaiting′ clocks′ operations′ contexts′ order′ : List ℕ) → CallResult → Type 0
+TakenByCore core held known awaiting clocks operations contexts order stack responses m held′ known′ awaiting′ clocks′ operations′
+    contexts′ order′ r =
+    KeptBy (coreParts core held known awaiting clocks operations contexts order stack responses)
+    (coreParts (r .core) held′ known′ awaiting′ clocks′ operations′ contexts′ order′ stack responses) (callOf m) (r .answer)
