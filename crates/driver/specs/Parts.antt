@@ -3,11 +3,10 @@ use Prim.Native.Nat.{ℕ}
 use mathlib.Core.List.{List}
 use Rattle.replica.specs.declared.Core.{Core}
 use Rattle.replica.specs.declared.CallResult.{CallResult}
-use Rattle.replica.specs.State.{State, Called, packed}
-use Rattle.replica.specs.Promises.{Kept}
-use Rattle.replica.specs.internal.Model.{Inv}
+use Rattle.replica.specs.State.{Called, packed}
 use Rattle.wire.specs.declared.Message.{Message}
-use Rattle.intake.specs.internal.Parts.{takeParts}
+use Rattle.replica.specs.internal.Parts.{KeptBy}
+use Rattle.intake.specs.internal.Parts.{coreParts}
 use Rattle.encoding.specs.Encoding.{messageCall}
 use Rattle.counting.specs.declared.EntryResult.{EntryResult}
 
@@ -21,10 +20,9 @@ leadsTo r held known awaiting clocks operations contexts order stack registers s
 -- ---- the call of a message
 
 -- of every panel with these parts that came from fresh and the calls: the call of the message behind that tag was answered and carried out as `creek` says
-pub record MessageKept (core : Core) (held known awaiting clocks operations contexts order stack responses : List ℕ) (tag : ℕ) (m : Message)
-    (held′ known′ awaiting′ clocks′ operations′ contexts′ order′ : List ℕ) (r : CallResult) : Type 0 where
-  pub kept : (p : State) → Inv (takeParts p core held known awaiting clocks operations contexts order stack responses)
-      → Kept (takeParts p core held known awaiting clocks operations contexts order stack responses) (messageCall tag m) (record {
-        answer = r .answer;
-        state = takeParts p (r .core) held′ known′ awaiting′ clocks′ operations′ contexts′ order′ stack responses;
-      })
+abbrev pub MessageKept : Core → (held known awaiting clocks operations contexts order stack responses : List ℕ) → ℕ → Message
+    → (held′ known′ awaiting′ clocks′ operations′ contexts′ order′ : List ℕ) → CallResult → Type 0
+MessageKept core held known awaiting clocks operations contexts order stack responses tag m held′ known′ awaiting′ clocks′ operations′
+    contexts′ order′ r =
+    KeptBy (coreParts core held known awaiting clocks operations contexts order stack responses)
+    (coreParts (r .core) held′ known′ awaiting′ clocks′ operations′ contexts′ order′ stack responses) (messageCall tag m) (r .answer)

@@ -11,7 +11,7 @@ ghost use Rattle.replica.specs.State.{packed};
 ghost use Rattle.replica.specs.internal.Model.{Inv};
 ghost use Rattle.encoding.specs.Encoding.{entryAt};
 ghost use Rattle.encoding.specs.internal.Running.{Done};
-ghost use Rattle.intake.specs.internal.Parts.{TakeAsks};
+ghost use Rattle.intake.specs.internal.Parts.{TakeCoreAsks};
 ghost use Rattle.driver.specs.Parts.{leadsTo, MessageKept};
 
 // What a place asks for, carried out on the panel.
@@ -114,7 +114,7 @@ fn message_call<'a>(
     tag: u8,
     message: Message,
 ) -> CallResult
-    requires { ⌜ TakeAsks core (now held) (now known) (now awaiting) (now clocks) (now operations) (now contexts) (now order) (now stack)
+    requires { ⌜ TakeCoreAsks core (now held) (now known) (now awaiting) (now clocks) (now operations) (now contexts) (now order) (now stack)
         (now responses) ⌝ }
     ensures { λ r. ⌜ MessageKept core (now (held .entry)) (now (known .entry)) (now (awaiting .entry)) (now (clocks .entry))
         (now (operations .entry)) (now (contexts .entry)) (now (order .entry)) (now (stack .entry)) (now (responses .entry)) tag message
@@ -124,7 +124,7 @@ fn message_call<'a>(
     let request = message.request;
     if tag == calls::INVOKE {
         let asked = encoding::invocation_of(request);
-        return entering::invoke(
+        return entering::invoke_with_core(
             core,
             held,
             known,
@@ -136,7 +136,7 @@ fn message_call<'a>(
             asked,
         );
     }
-    intake::take(
+    intake::take_with_core(
         core,
         held,
         known,

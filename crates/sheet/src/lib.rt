@@ -94,7 +94,7 @@ fn take_in(
         (now (operations .exit)) (now (contexts .exit)) (now (order .exit)) (now (stack .exit)) (now (registers .exit))
         (now (saved .exit)) (now (responses .exit))) h ⌝ }
 {
-    let c = intake::take(
+    let c = intake::take_with_core(
         core,
         held,
         known,
