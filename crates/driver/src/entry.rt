@@ -133,7 +133,6 @@ fn message_call<'a>(
             operations,
             contexts,
             order,
-            stack,
             asked,
         );
     }

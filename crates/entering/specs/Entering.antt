@@ -79,51 +79,51 @@ pub record Entered (p : State) (x : Request) (awaiting : Context) (events : ℕ)
 -- ---- over the parts of a panel
 
 -- p with that core and the parts that the calls are lent
-abbrev pub enterParts : State → Core → (held known awaiting clocks operations contexts order stack : List ℕ) → State
-enterParts p core held known awaiting clocks operations contexts order stack =
-    packed core (p .counters) held known awaiting clocks operations contexts order stack (p .registers) (p .saved) (p .responses)
+abbrev pub enterParts : State → Core → (held known awaiting clocks operations contexts order : List ℕ) → State
+enterParts p core held known awaiting clocks operations contexts order =
+    packed core (p .counters) held known awaiting clocks operations contexts order (p .stack) (p .registers) (p .saved) (p .responses)
 
 -- the same where those who await a reply are not lent
-abbrev pub deliverParts : State → Core → (held known clocks operations contexts order stack : List ℕ) → State
-deliverParts p core held known clocks operations contexts order stack =
-    enterParts p core held known (p .awaiting .words) clocks operations contexts order stack
+abbrev pub deliverParts : State → Core → (held known clocks operations contexts order : List ℕ) → State
+deliverParts p core held known clocks operations contexts order =
+    enterParts p core held known (p .awaiting .words) clocks operations contexts order
 
 -- x, of that slot and place, may enter a panel with these parts that came from fresh and the calls
-pub record EnterAsks (core : Core) (held known clocks operations contexts order stack : List ℕ) (slot at : ℕ) (x : Request) : Type 0 where
+pub record EnterAsks (core : Core) (held known clocks operations contexts order : List ℕ) (slot at : ℕ) (x : Request) : Type 0 where
   pub panel : State
-  pub invariant : Inv (deliverParts panel core held known clocks operations contexts order stack)
-  pub enters : Enters (deliverParts panel core held known clocks operations contexts order stack) x
+  pub invariant : Inv (deliverParts panel core held known clocks operations contexts order)
+  pub enters : Enters (deliverParts panel core held known clocks operations contexts order) x
   pub its-slot : slot ≡ slotOf (x .number)
   pub its-place : at ≡ placeFor clocks order (core .committed) (core .ordered) (x .clock .0) slot
 
 -- of every such panel: x entered, and `executed` of the executed list stays
-pub record EnterKept (core : Core) (held known clocks operations contexts order stack : List ℕ) (x : Request)
+pub record EnterKept (core : Core) (held known clocks operations contexts order : List ℕ) (x : Request)
     (held′ known′ clocks′ operations′ contexts′ order′ : List ℕ) (executed : ℕ) : Type 0 where
-  pub kept : (p : State) → Inv (deliverParts p core held known clocks operations contexts order stack)
-      → Enters (deliverParts p core held known clocks operations contexts order stack) x
+  pub kept : (p : State) → Inv (deliverParts p core held known clocks operations contexts order)
+      → Enters (deliverParts p core held known clocks operations contexts order) x
       → (awaiting : List ℕ) (events : ℕ) (clock : Clock)
-      → Entered (deliverParts p core held known clocks operations contexts order stack) x (setOf awaiting) events clock
-      (enterParts p (withEntered core executed events clock) held′ known′ awaiting clocks′ operations′ contexts′ order′ stack)
+      → Entered (deliverParts p core held known clocks operations contexts order) x (setOf awaiting) events clock
+      (enterParts p (withEntered core executed events clock) held′ known′ awaiting clocks′ operations′ contexts′ order′)
 
 -- they are the parts of a panel that came from fresh and the calls
-pub record DeliverAsks (core : Core) (held known clocks operations contexts order stack : List ℕ) : Type 0 where
+pub record DeliverAsks (core : Core) (held known clocks operations contexts order : List ℕ) : Type 0 where
   pub panel : State
-  pub invariant : Inv (deliverParts panel core held known clocks operations contexts order stack)
+  pub invariant : Inv (deliverParts panel core held known clocks operations contexts order)
 
 -- of every such panel: the delivery was answered and carried out as `creek` says
-pub record DeliverKept (core : Core) (held known clocks operations contexts order stack : List ℕ) (x : Request)
+pub record DeliverKept (core : Core) (held known clocks operations contexts order : List ℕ) (x : Request)
     (held′ known′ clocks′ operations′ contexts′ order′ : List ℕ) (r : CallResult) : Type 0 where
-  pub kept : (p : State) → Inv (deliverParts p core held known clocks operations contexts order stack)
-      → Kept (deliverParts p core held known clocks operations contexts order stack) (deliver x)
-      (record { answer = r .answer; state = deliverParts p (r .core) held′ known′ clocks′ operations′ contexts′ order′ stack })
+  pub kept : (p : State) → Inv (deliverParts p core held known clocks operations contexts order)
+      → Kept (deliverParts p core held known clocks operations contexts order) (deliver x)
+      (record { answer = r .answer; state = deliverParts p (r .core) held′ known′ clocks′ operations′ contexts′ order′ })
 
 -- the same of an invocation
-pub record InvokeAsks (core : Core) (held known awaiting clocks operations contexts order stack : List ℕ) : Type 0 where
+pub record InvokeAsks (core : Core) (held known awaiting clocks operations contexts order : List ℕ) : Type 0 where
   pub panel : State
-  pub invariant : Inv (enterParts panel core held known awaiting clocks operations contexts order stack)
+  pub invariant : Inv (enterParts panel core held known awaiting clocks operations contexts order)
 
-pub record InvokeKept (core : Core) (held known awaiting clocks operations contexts order stack : List ℕ) (i : Invocation)
+pub record InvokeKept (core : Core) (held known awaiting clocks operations contexts order : List ℕ) (i : Invocation)
     (held′ known′ awaiting′ clocks′ operations′ contexts′ order′ : List ℕ) (r : CallResult) : Type 0 where
-  pub kept : (p : State) → Inv (enterParts p core held known awaiting clocks operations contexts order stack)
-      → Kept (enterParts p core held known awaiting clocks operations contexts order stack) (invoke i)
-      (record { answer = r .answer; state = enterParts p (r .core) held′ known′ awaiting′ clocks′ operations′ contexts′ order′ stack })
+  pub kept : (p : State) → Inv (enterParts p core held known awaiting clocks operations contexts order)
+      → Kept (enterParts p core held known awaiting clocks operations contexts order) (invoke i)
+      (record { answer = r .answer; state = enterParts p (r .core) held′ known′ awaiting′ clocks′ operations′ contexts′ order′ })

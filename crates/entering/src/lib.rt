@@ -24,7 +24,7 @@ ghost use Rattle.entering.specs.Entering.{DeliverAsks, DeliverKept, Invo
 
 // A request is made: it enters as one that is heard does, awaits a reply, and is to be spread to the other panels. One made with a lower
 // clock takes the reading of the last own request.
-pub fn invoke<'a>(
+pub fn invoke(
     core: Core,
     held: &mut [u64; 8],
     known: &mut [u64; 8],
@@ -33,12 +33,11 @@ pub fn invoke<'a>(
     operations: &mut [u64; 512],
     contexts: &mut [u64; 4096],
     order: &mut [u16; 512],
-    stack: &'a [u16; 512],
     i: Invocation,
 ) -> CallResult
-    requires { ⌜ InvokeAsks core (now held) (now known) (now awaiting) (now clocks) (now operations) (now contexts) (now order) (now stack) ⌝ }
+    requires { ⌜ InvokeAsks core (now held) (now known) (now awaiting) (now clocks) (now operations) (now contexts) (now order) ⌝ }
     ensures { λ r. ⌜ InvokeKept core (now (held .entry)) (now (known .entry)) (now (awaiting .entry)) (now (clocks .entry))
-        (now (operations .entry)) (now (contexts .entry)) (now (order .entry)) (now (stack .entry)) i
+        (now (operations .entry)) (now (contexts .entry)) (now (order .entry)) i
         (now (held .exit)) (now (known .exit)) (now (awaiting .exit)) (now (clocks .exit)) (now (operations .exit)) (now (contexts .exit))
         (now (order .exit)) r ⌝ }
 {
@@ -74,7 +73,6 @@ pub fn invoke<'a>(
         operations,
         contexts,
         order,
-        stack,
         slot,
         at,
         x,
@@ -95,7 +93,7 @@ pub fn invoke<'a>(
 
 // x, whose slot and place of the order these are, enters, and what is executed behind that place is to be rolled back: how much of the
 // executed list stays.
-fn enter<'a>(
+fn enter(
     core: Core,
     held: &mut [u64; 8],
     known: &mut [u64; 8],
@@ -103,14 +101,13 @@ fn enter<'a>(
     operations: &mut [u64; 512],
     contexts: &mut [u64; 4096],
     order: &mut [u16; 512],
-    stack: &'a [u16; 512],
     slot: u16,
     at: usize,
     x: Request,
 ) -> usize
-    requires { ⌜ EnterAsks core (now held) (now known) (now clocks) (now operations) (now contexts) (now order) (now stack) slot at x ⌝ }
+    requires { ⌜ EnterAsks core (now held) (now known) (now clocks) (now operations) (now contexts) (now order) slot at x ⌝ }
     ensures { λ k. ⌜ EnterKept core (now (held .entry)) (now (known .entry)) (now (clocks .entry)) (now (operations .entry))
-        (now (contexts .entry)) (now (order .entry)) (now (stack .entry)) x
+        (now (contexts .entry)) (now (order .entry)) x
         (now (held .exit)) (now (known .exit)) (now (clocks .exit)) (now (operations .exit)) (now (contexts .exit)) (now (order .exit)) k ⌝ }
 {
     let n = core.ordered;
@@ -194,7 +191,7 @@ fn spread(x: Request) -> Answer
 }
 
 // A request of another panel is heard: it enters, unless it is refused.
-pub fn deliver<'a>(
+pub fn deliver(
     core: Core,
     held: &mut [u64; 8],
     known: &mut [u64; 8],
@@ -202,12 +199,11 @@ pub fn deliver<'a>(
     operations: &mut [u64; 512],
     contexts: &mut [u64; 4096],
     order: &mut [u16; 512],
-    stack: &'a [u16; 512],
     x: Request,
 ) -> CallResult
-    requires { ⌜ DeliverAsks core (now held) (now known) (now clocks) (now operations) (now contexts) (now order) (now stack) ⌝ }
+    requires { ⌜ DeliverAsks core (now held) (now known) (now clocks) (now operations) (now contexts) (now order) ⌝ }
     ensures { λ r. ⌜ DeliverKept core (now (held .entry)) (now (known .entry)) (now (clocks .entry)) (now (operations .entry))
-        (now (contexts .entry)) (now (order .entry)) (now (stack .entry)) x
+        (now (contexts .entry)) (now (order .entry)) x
         (now (held .exit)) (now (known .exit)) (now (clocks .exit)) (now (operations .exit)) (now (contexts .exit)) (now (order .exit)) r ⌝ }
 {
     let refusal = judge(core.panels, core.own, x);
@@ -230,7 +226,6 @@ pub fn deliver<'a>(
         operations,
         contexts,
         order,
-        stack,
         slot,
         at,
         x,

@@ -33,7 +33,7 @@ module _ {core : Core} {held known awaiting clocks operations contexts order sta
     }
 
     pub take-heard : m .subject ≡ Request → {held′ known′ clocks′ operations′ contexts′ order′ : List ℕ}
-        → DeliverKept core held known clocks operations contexts order stack (m .request) held′ known′ clocks′ operations′ contexts′ order′ r
+        → DeliverKept core held known clocks operations contexts order (m .request) held′ known′ clocks′ operations′ contexts′ order′ r
         → Taken core held known awaiting clocks operations contexts order stack responses (said m)
         held′ known′ awaiting clocks′ operations′ contexts′ order′ r
     unfolding callOf

@@ -58,7 +58,6 @@ pub fn take<'a>(
             operations,
             contexts,
             order,
-            stack,
             x,
         ),
         Subject::Settlement => settling::commit(

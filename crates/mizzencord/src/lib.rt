@@ -81,7 +81,6 @@ pub extern "C" fn mizzencord_invoke(p: &mut Panel, i: Invocation) -> Answer
         &mut p.operations,
         &mut p.contexts,
         &mut p.order,
-        &p.stack,
         i,
     );
     p.core = done.core;
@@ -102,7 +101,6 @@ pub extern "C" fn mizzencord_deliver(p: &mut Panel, x: Request) -> Answer
         &mut p.operations,
         &mut p.contexts,
         &mut p.order,
-        &p.stack,
         x,
     );
     p.core = done.core;

@@ -38,7 +38,7 @@ slotted c = c .before .before
 abbrev lent : tie.Start → State → State
 lent a p =
     deliverParts p (a .args .core) (a .args .held .now) (a .args .known .now) (a .args .clocks .now) (a .args .operations .now)
-    (a .args .contexts .now) (a .args .order .now) (a .args .stack .now)
+    (a .args .contexts .now) (a .args .order .now)
 
 -- ---- what is known there
 

@@ -23,7 +23,7 @@ start c = c .before .before .before
 abbrev lent : tie.Start → State
 lent a =
     deliverParts (a .pre .panel) (a .args .core) (a .args .held .now) (a .args .known .now) (a .args .clocks .now) (a .args .operations .now)
-    (a .args .contexts .now) (a .args .order .now) (a .args .stack .now)
+    (a .args .contexts .now) (a .args .order .now)
 
 -- ---- what the function needs
 

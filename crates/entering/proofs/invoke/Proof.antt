@@ -46,7 +46,7 @@ placed c = c .before .before .before
 abbrev lent : tie.Start → State → State
 lent a p =
     enterParts p (a .args .core) (a .args .held .now) (a .args .known .now) (a .args .awaiting .now) (a .args .clocks .now)
-    (a .args .operations .now) (a .args .contexts .now) (a .args .order .now) (a .args .stack .now)
+    (a .args .operations .now) (a .args .contexts .now) (a .args .order .now)
 
 -- ---- what is known there
 

@@ -20,7 +20,7 @@ use Rattle.replica.specs.internal.Model.{Inv}
 use Rattle.mizzencord.specs.Memory.{memory}
 use Rattle.lending.proofs.Values.{Value, struct}
 use Rattle.lending.proofs.Locals.{blocks}
-use Rattle.lending.proofs.Choosing.{Choice, stays, is-read-first, is-changed}
+use Rattle.lending.proofs.Choosing.{Choice, stays, is-changed}
 use Rattle.lending.proofs.Dropped.{Further, a-value}
 use Rattle.mizzencord.proofs.Outcomes.{outcome-val, answered}
 use Rattle.mizzencord.proofs.ChangingCall.{done-local, further-locals, part-locals, calling, taken, all-locals, changes-panel}
@@ -39,7 +39,7 @@ F = a-value heard (λ x. tt) (λ x w. refl)
 
 -- what becomes of each field
 abbrev lent : List Choice
-lent = stays ∷ stays ∷ is-changed ∷ is-changed ∷ stays ∷ is-changed ∷ is-changed ∷ is-changed ∷ is-changed ∷ is-read-first ∷ []
+lent = stays ∷ stays ∷ is-changed ∷ is-changed ∷ stays ∷ is-changed ∷ is-changed ∷ is-changed ∷ is-changed ∷ []
 
 pub mizzencord-deliver-spec : {M : Type 1} → stated.statement M
 unfolding code.routine tablesOf
@@ -57,19 +57,19 @@ mizzencord-deliver-spec 𝓤 H 𝓜 𝓖 𝓡 =
       after = λ r. set vs (done-local F) (some (outcome-val answered r));
       typed = λ bs. ((tt, tt), (heard .typed 𝓤 H (𝓖 .A) W (a .0) (are .0), tt));
       fields-read = λ bs. (((tt, refl), (tt, refl)), tt);
-      fields-lent = λ bs. (search, (search, (search, (search, (search, (search, (search, tt)))))));
+      fields-lent = λ bs. (search, (search, (search, (search, (search, (search, tt))))));
       outcome-held = λ bs r. ((tt, refl), refl);
       panel-held = λ bs r. (tt, refl);
       filled = λ bs r. tt;
       runs-middle = λ bs told k.
           lends-parts ! (fmOf 𝓤 H (W .laws) 𝓣) (blocks 𝓤 H (all-locals F the-core answered lent []) bs) vs (part-locals F the-core lent ++ further-locals F)
           (done-local F) b o answered (core-and lent (heard .type ∷ [])) (spelling lent (heard .type ∷ []) h (heard .spelt .val (a .0) ∷ [], tt))
-          (fact 𝓤 (DeliverAsks (h .core) (h .held) (h .known) (h .clocks) (h .operations) (h .contexts) (h .order) (h .stack)))
-          (λ r zs. DeliverKept (h .core) (h .held) (h .known) (h .clocks) (h .operations) (h .contexts) (h .order) (h .stack) (a .0) (zs .1 .0)
+          (fact 𝓤 (DeliverAsks (h .core) (h .held) (h .known) (h .clocks) (h .operations) (h .contexts) (h .order)))
+          (λ r zs. DeliverKept (h .core) (h .held) (h .known) (h .clocks) (h .operations) (h .contexts) (h .order) (a .0) (zs .1 .0)
           (zs .1 .1 .0) (zs .1 .1 .1 .0) (zs .1 .1 .1 .1 .0) (zs .1 .1 .1 .1 .1 .0) (zs .1 .1 .1 .1 .1 .1 .0) r)
           (parts-loan lent (heard .type ∷ []) h 𝓤 H (𝓖 .A) W b o a)
           (core-read .value .makes 𝓤 H (𝓖 .A) W (h .core) _ (told .0), (heard .makes 𝓤 H (𝓖 .A) W (a .0) _ (are .0), tt))
           (factI 𝓤 _ _ (record { panel = memory h; invariant = ok })) (λ κ ns. known _)
-          ((tt, refl), ((tt, refl), ((tt, refl), ((tt, refl), ((tt, refl), ((tt, refl), ((tt, refl), ((tt, refl), ((tt, refl), tt))))))))) tt refl
+          ((tt, refl), ((tt, refl), ((tt, refl), ((tt, refl), ((tt, refl), ((tt, refl), ((tt, refl), ((tt, refl), tt)))))))) tt refl
           (λ r zs is kept. k r (left-as lent (heard .type ∷ []) h zs) is (factI 𝓤 _ _ (kept .kept (memory h) ok)));
     }))
