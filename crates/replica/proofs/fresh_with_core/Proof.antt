@@ -1,11 +1,11 @@
--- `fresh` meets its contract.
+-- `fresh_with_core` meets its contract.
 use mathlib.Core.Path.{sym, _∙_}
 use Rattle.numbers.specs.Numbers.{panelNo}
 use Rattle.replica.proofs.States.{emptyState}
 use Rattle.replica.proofs.FreshLaws.{good-shop, one-panel-shop, empty-made, fresh-refused, fresh-opened}
 use borrow.Author.Needs.{needs}
-use Rattle.replica.proofs.fresh.Statement.{statement}
-use Rattle.replica.proofs.fresh.Tie as tie
+use Rattle.replica.proofs.fresh_with_core.Statement.{statement}
+use Rattle.replica.proofs.fresh_with_core.Tie as tie
 
 bad-shop-requires : tie.Need-bad-shop-requires
 bad-shop-requires c κs = search needs
@@ -31,7 +31,7 @@ returns-2 c =
     let good = sym (else .before .bad-shop .ensures) ∙ else .if1 .left in
     record { opened = rw (c .first-core2 .ensures) (fresh-opened _ _ _ good (empty-made _ _ (good-shop _ _ good))) }
 
-pub fresh-spec : {M : Type 1} → statement M
-fresh-spec =
+pub fresh-with-core-spec : {M : Type 1} → statement M
+fresh-with-core-spec =
     tie.close
     (tie.spec bad-shop-requires first-core-requires returns first-core-requires-2 returns-2)
