@@ -161,7 +161,7 @@ pub extern "C" fn mizzencord_undo(p: &mut Panel) -> Answer
     requires { ⌜ Inv (memory (now p)) ⌝ }
     ensures { λ a. ⌜ Kept (memory (now (p .entry))) undoCall (record { answer = a; state = memory (now (p .exit)) }) ⌝ }
 {
-    let done = steps::undo(p.core, &p.operations, &p.stack, &mut p.registers, &p.saved);
+    let done = steps::undo_with_core(p.core, &p.operations, &p.stack, &mut p.registers, &p.saved);
     counters::count_undos(&mut p.counters, done.steps);
     p.core = done.core;
     done.answer
@@ -173,7 +173,7 @@ pub extern "C" fn mizzencord_execute(p: &mut Panel) -> Answer
     requires { ⌜ Inv (memory (now p)) ⌝ }
     ensures { λ a. ⌜ Kept (memory (now (p .entry))) executeCall (record { answer = a; state = memory (now (p .exit)) }) ⌝ }
 {
-    let done = steps::execute(
+    let done = steps::execute_with_core(
         p.core,
         &mut p.awaiting,
         &p.operations,
@@ -194,7 +194,7 @@ pub extern "C" fn mizzencord_run_due(p: &mut Panel) -> DueSteps
     requires { ⌜ Inv (memory (now p)) ⌝ }
     ensures { λ r. ⌜ RunDue (memory (now (p .entry))) (ran r (memory (now (p .exit)))) ⌝ }
 {
-    let done = due::run_due(
+    let done = due::run_due_with_core(
         p.core,
         &mut p.awaiting,
         &p.operations,
