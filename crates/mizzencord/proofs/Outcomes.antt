@@ -29,12 +29,12 @@ use Rattle.replica.proofs.CallResult as Ca
 use Rattle.replica.proofs.CallResult.Laws as Ca′
 use Rattle.replica.proofs.FreshResult as Fr
 use Rattle.replica.proofs.FreshResult.Laws as Fr′
-use Rattle.steps.proofs.StepResult as St
-use Rattle.steps.proofs.StepResult.Laws as St′
+use Rattle.steps.proofs.with_core.StepResult as St
+use Rattle.steps.proofs.with_core.StepResult.Laws as St′
 use Rattle.due.proofs.DueSteps as Ds
 use Rattle.due.proofs.DueSteps.Laws as Ds′
-use Rattle.due.proofs.DueResult as Du
-use Rattle.due.proofs.DueResult.Laws as Du′
+use Rattle.due.proofs.with_core.DueResult as Du
+use Rattle.due.proofs.with_core.DueResult.Laws as Du′
 use Rattle.intake.proofs.Receipt as Rc
 use Rattle.intake.proofs.Receipt.Laws as Rc′
 use Rattle.intake.proofs.ReceiveResult as Re

@@ -108,7 +108,7 @@ fn take_in(
         m,
     );
     let answer = c.answer;
-    let ran = due::run_due(
+    let ran = due::run_due_with_core(
         c.core,
         awaiting,
         operations,

@@ -1,4 +1,4 @@
--- `mizzencord::mizzencord_execute` meets its contract: its MIR is that of a function that lends parts of a panel, to `steps::execute`, and counts.
+-- `mizzencord::mizzencord_execute` meets its contract: its MIR is that of a function that lends parts of a panel, to `steps::execute_with_core`, and counts.
 use mathlib.Core.Path.{refl}
 use Prim.Native.Nat.{_+_, _≤_}
 use mathlib.Core.List.{List, [], _∷_}
@@ -20,12 +20,12 @@ use Rattle.counters.proofs.count_executions as count
 use Rattle.counters.proofs.count_executions.Symbol as count-def
 use Rattle.counters.proofs.count_executions.Met as count-thm
 use Rattle.replica.proofs.BoundLaws.{executions-fit}
-use Rattle.steps.specs.Steps.{ExecuteAsks, ExecuteKept}
-use Rattle.steps.proofs.StepResult as Sr
-use Rattle.steps.proofs.StepResult.Laws as Sr′
-use Rattle.steps.proofs.execute as callee
-use Rattle.steps.proofs.execute.Symbol as callee-def
-use Rattle.steps.proofs.execute.Met as callee-thm
+use Rattle.steps.specs.WithCore.{CoreExecuteAsks, CoreExecuteKept}
+use Rattle.steps.proofs.with_core.StepResult as Sr
+use Rattle.steps.proofs.with_core.StepResult.Laws as Sr′
+use Rattle.steps.proofs.with_core.execute_with_core as callee
+use Rattle.steps.proofs.with_core.execute_with_core.Symbol as callee-def
+use Rattle.steps.proofs.with_core.execute_with_core.Met as callee-thm
 use Rattle.replica.specs.internal.Model.{Inv}
 use Rattle.mizzencord.specs.Memory.{memory}
 use Rattle.lending.proofs.Locals.{blocks, the}
@@ -56,7 +56,7 @@ mizzencord-execute-spec 𝓤 H 𝓜 𝓖 𝓡 =
     let 𝓣 = tablesOf 𝓤 H 𝓜 (tables 𝓤 H 𝓜 𝓡 code.env) in
     let fm = fmOf 𝓤 H (W .laws) 𝓣 in
     let known = cited 𝓤 H (tripleOf 𝓤 H (𝓖 .A) callee.signature (callee.spec 𝓤 H (𝓖 .A) (𝓜 .mem) (𝓡 .run))) 𝓜 𝓡 code.env callee-def.name
-    callee-def.routine code.calls-steps·execute (callee-thm.met 𝓤 H 𝓜 𝓖 𝓡) in
+    callee-def.routine code.calls-steps·with-core·execute-with-core (callee-thm.met 𝓤 H 𝓜 𝓖 𝓡) in
     let known-count = cited 𝓤 H (tripleOf 𝓤 H (𝓖 .A) count.signature (count.spec 𝓤 H (𝓖 .A) (𝓜 .mem) (𝓡 .run))) 𝓜 𝓡 code.env count-def.name
     count-def.routine code.calls-counters·count-executions (count-thm.met 𝓤 H 𝓜 𝓖 𝓡) in
     let c = counters-local lent in
@@ -78,8 +78,8 @@ mizzencord-execute-spec 𝓤 H 𝓜 𝓖 𝓡 =
       runs-middle = λ bs told k.
           let E = blocks 𝓤 H (all-locals alone the-core stepped lent (counted-type ∷ counters-type ∷ [])) bs in
           lends-parts ! fm E vs (part-locals alone the-core lent) (done-local alone) b o stepped (core-and lent []) (spelling lent [] h tt)
-          (fact 𝓤 (ExecuteAsks (h .core) (h .awaiting) (h .operations) (h .order) (h .stack) (h .registers) (h .saved) (h .responses)))
-          (λ r zs. ExecuteKept (h .core) (h .awaiting) (h .operations) (h .order) (h .stack) (h .registers) (h .saved) (h .responses) (zs .1 .0)
+          (fact 𝓤 (CoreExecuteAsks (h .core) (h .awaiting) (h .operations) (h .order) (h .stack) (h .registers) (h .saved) (h .responses)))
+          (λ r zs. CoreExecuteKept (h .core) (h .awaiting) (h .operations) (h .order) (h .stack) (h .registers) (h .saved) (h .responses) (zs .1 .0)
           (zs .1 .1 .1 .1 .0) (zs .1 .1 .1 .1 .1 .0) (zs .1 .1 .1 .1 .1 .1 .0) (zs .1 .1 .1 .1 .1 .1 .1 .0) r)
           (parts-loan lent [] h 𝓤 H (𝓖 .A) W b o tt) (core-read .value .makes 𝓤 H (𝓖 .A) W (h .core) _ (told .0), tt)
           (factI 𝓤 _ _ (record { panel = memory h; invariant = ok })) (λ κ ns. known _)

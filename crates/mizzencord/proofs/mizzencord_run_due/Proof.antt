@@ -1,4 +1,4 @@
--- `mizzencord::mizzencord_run_due` meets its contract: its MIR is that of a function that lends parts of a panel, to `due::run_due`, and counts twice.
+-- `mizzencord::mizzencord_run_due` meets its contract: its MIR is that of a function that lends parts of a panel, to `due::run_due_with_core`, and counts twice.
 use mathlib.Core.Path.{refl}
 use Prim.Native.Nat.{suc, _+_, _≤_}
 use mathlib.Core.List.{List, [], _∷_}
@@ -23,13 +23,13 @@ use Rattle.counters.proofs.count_executions as count
 use Rattle.counters.proofs.count_executions.Symbol as count-def
 use Rattle.counters.proofs.count_executions.Met as count-thm
 use Rattle.replica.proofs.BoundLaws.{undos-fit, executions-fit}
-use Rattle.steps.specs.Steps.{ExecuteAsks}
-use Rattle.due.specs.internal.Parts.{DueKept}
+use Rattle.steps.specs.WithCore.{CoreExecuteAsks}
+use Rattle.due.specs.internal.WithCore.{CoreDueKept}
 use Rattle.due.proofs.DueSteps as X
 use Rattle.due.proofs.DueSteps.Laws as X′
-use Rattle.due.proofs.run_due as callee
-use Rattle.due.proofs.run_due.Symbol as callee-def
-use Rattle.due.proofs.run_due.Met as callee-thm
+use Rattle.due.proofs.with_core.run_due_with_core as callee
+use Rattle.due.proofs.with_core.run_due_with_core.Symbol as callee-def
+use Rattle.due.proofs.with_core.run_due_with_core.Met as callee-thm
 use Rattle.replica.specs.internal.Model.{Inv}
 use Rattle.mizzencord.specs.Memory.{memory}
 use Rattle.lending.proofs.Locals.{blocks, the}
@@ -66,7 +66,7 @@ mizzencord-run-due-spec 𝓤 H 𝓜 𝓖 𝓡 =
     let 𝓣 = tablesOf 𝓤 H 𝓜 (tables 𝓤 H 𝓜 𝓡 code.env) in
     let fm = fmOf 𝓤 H (W .laws) 𝓣 in
     let known = cited 𝓤 H (tripleOf 𝓤 H (𝓖 .A) callee.signature (callee.spec 𝓤 H (𝓖 .A) (𝓜 .mem) (𝓡 .run))) 𝓜 𝓡 code.env callee-def.name
-    callee-def.routine code.calls-due·run-due (callee-thm.met 𝓤 H 𝓜 𝓖 𝓡) in
+    callee-def.routine code.calls-due·with-core·run-due-with-core (callee-thm.met 𝓤 H 𝓜 𝓖 𝓡) in
     let known-count = cited 𝓤 H (tripleOf 𝓤 H (𝓖 .A) count.signature (count.spec 𝓤 H (𝓖 .A) (𝓜 .mem) (𝓡 .run))) 𝓜 𝓡 code.env count-def.name
     count-def.routine code.calls-counters·count-executions (count-thm.met 𝓤 H 𝓜 𝓖 𝓡) in
     let known-back = cited 𝓤 H (tripleOf 𝓤 H (𝓖 .A) back.signature (back.spec 𝓤 H (𝓖 .A) (𝓜 .mem) (𝓡 .run))) 𝓜 𝓡 code.env back-def.name
@@ -90,8 +90,8 @@ mizzencord-run-due-spec 𝓤 H 𝓜 𝓖 𝓡 =
       runs-middle = λ bs told k.
           let E = blocks 𝓤 H (all-locals alone the-core ran lent more) bs in
           lends-parts ! fm E vs (part-locals alone the-core lent) (done-local alone) b o ran (core-and lent []) (spelling lent [] h tt)
-          (fact 𝓤 (ExecuteAsks (h .core) (h .awaiting) (h .operations) (h .order) (h .stack) (h .registers) (h .saved) (h .responses)))
-          (λ r zs. DueKept (h .core) (h .awaiting) (h .operations) (h .order) (h .stack) (h .registers) (h .saved) (h .responses) (zs .1 .0)
+          (fact 𝓤 (CoreExecuteAsks (h .core) (h .awaiting) (h .operations) (h .order) (h .stack) (h .registers) (h .saved) (h .responses)))
+          (λ r zs. CoreDueKept (h .core) (h .awaiting) (h .operations) (h .order) (h .stack) (h .registers) (h .saved) (h .responses) (zs .1 .0)
           (zs .1 .1 .1 .1 .0) (zs .1 .1 .1 .1 .1 .0) (zs .1 .1 .1 .1 .1 .1 .0) (zs .1 .1 .1 .1 .1 .1 .1 .0) r)
           (parts-loan lent [] h 𝓤 H (𝓖 .A) W b o tt) (core-read .value .makes 𝓤 H (𝓖 .A) W (h .core) _ (told .0), tt)
           (factI 𝓤 _ _ (record { panel = memory h; invariant = ok })) (λ κ ns. known _)

@@ -1,4 +1,4 @@
--- `mizzencord::mizzencord_undo` meets its contract: its MIR is that of a function that lends parts of a panel, to `steps::undo`, and counts.
+-- `mizzencord::mizzencord_undo` meets its contract: its MIR is that of a function that lends parts of a panel, to `steps::undo_with_core`, and counts.
 use mathlib.Core.Path.{refl}
 use Prim.Native.Nat.{_+_, _≤_}
 use mathlib.Core.List.{List, [], _∷_}
@@ -20,12 +20,12 @@ use Rattle.counters.proofs.count_undos as count
 use Rattle.counters.proofs.count_undos.Symbol as count-def
 use Rattle.counters.proofs.count_undos.Met as count-thm
 use Rattle.replica.proofs.BoundLaws.{undos-fit}
-use Rattle.steps.specs.Steps.{UndoAsks, UndoKept}
-use Rattle.steps.proofs.StepResult as Sr
-use Rattle.steps.proofs.StepResult.Laws as Sr′
-use Rattle.steps.proofs.undo as callee
-use Rattle.steps.proofs.undo.Symbol as callee-def
-use Rattle.steps.proofs.undo.Met as callee-thm
+use Rattle.steps.specs.WithCore.{CoreUndoAsks, CoreUndoKept}
+use Rattle.steps.proofs.with_core.StepResult as Sr
+use Rattle.steps.proofs.with_core.StepResult.Laws as Sr′
+use Rattle.steps.proofs.with_core.undo_with_core as callee
+use Rattle.steps.proofs.with_core.undo_with_core.Symbol as callee-def
+use Rattle.steps.proofs.with_core.undo_with_core.Met as callee-thm
 use Rattle.replica.specs.internal.Model.{Inv}
 use Rattle.mizzencord.specs.Memory.{memory}
 use Rattle.lending.proofs.Locals.{blocks, the}
@@ -56,7 +56,7 @@ mizzencord-undo-spec 𝓤 H 𝓜 𝓖 𝓡 =
     let 𝓣 = tablesOf 𝓤 H 𝓜 (tables 𝓤 H 𝓜 𝓡 code.env) in
     let fm = fmOf 𝓤 H (W .laws) 𝓣 in
     let known = cited 𝓤 H (tripleOf 𝓤 H (𝓖 .A) callee.signature (callee.spec 𝓤 H (𝓖 .A) (𝓜 .mem) (𝓡 .run))) 𝓜 𝓡 code.env callee-def.name
-    callee-def.routine code.calls-steps·undo (callee-thm.met 𝓤 H 𝓜 𝓖 𝓡) in
+    callee-def.routine code.calls-steps·with-core·undo-with-core (callee-thm.met 𝓤 H 𝓜 𝓖 𝓡) in
     let known-count = cited 𝓤 H (tripleOf 𝓤 H (𝓖 .A) count.signature (count.spec 𝓤 H (𝓖 .A) (𝓜 .mem) (𝓡 .run))) 𝓜 𝓡 code.env count-def.name
     count-def.routine code.calls-counters·count-undos (count-thm.met 𝓤 H 𝓜 𝓖 𝓡) in
     let c = counters-local lent in
@@ -78,8 +78,8 @@ mizzencord-undo-spec 𝓤 H 𝓜 𝓖 𝓡 =
       runs-middle = λ bs told k.
           let E = blocks 𝓤 H (all-locals alone the-core stepped lent (counted-type ∷ counters-type ∷ [])) bs in
           lends-parts ! fm E vs (part-locals alone the-core lent) (done-local alone) b o stepped (core-and lent []) (spelling lent [] h tt)
-          (fact 𝓤 (UndoAsks (h .core) (h .operations) (h .stack) (h .registers) (h .saved)))
-          (λ r zs. UndoKept (h .core) (h .operations) (h .stack) (h .registers) (h .saved) (zs .1 .1 .1 .0) r)
+          (fact 𝓤 (CoreUndoAsks (h .core) (h .operations) (h .stack) (h .registers) (h .saved)))
+          (λ r zs. CoreUndoKept (h .core) (h .operations) (h .stack) (h .registers) (h .saved) (zs .1 .1 .1 .0) r)
           (parts-loan lent [] h 𝓤 H (𝓖 .A) W b o tt) (core-read .value .makes 𝓤 H (𝓖 .A) W (h .core) _ (told .0), tt)
           (factI 𝓤 _ _ (record { panel = memory h; invariant = ok })) (λ κ ns. known _)
           ((tt, refl), ((tt, refl), ((tt, refl), ((tt, refl), ((tt, refl), tt))))) tt refl (λ r zs is kept.
