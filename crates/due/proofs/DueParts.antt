@@ -10,7 +10,7 @@ use Rattle.creek.specs.Replies.{replyIn, noMark, reply}
 use Rattle.creek.specs.declared.Reply.{Reply}
 use Rattle.replica.specs.State.{State}
 use Rattle.replica.specs.internal.Cores.{coreIn}
-use Rattle.replica.specs.internal.Parts.{coreParts}
+use Rattle.replica.specs.internal.Parts.{withCounters}
 use Rattle.replica.specs.internal.Model.{Inv}
 use Rattle.steps.specs.Lent.{UndoLent, undoWith, undoChanged, undoing, ExecuteLent, executeChanged, executing, withUndos, withExecutions}
 use Rattle.steps.specs.Steps.{UndoAsks, TopAsks, TakenOff, ExecuteAsks}
@@ -53,7 +53,7 @@ module _ (l : UndoLent) where
     low = omega (arith, asks .invariant .counts);
     high = omega arith;
     each = λ p inv.
-        subst (λ (k : Counters). Rolling (undoing l p) (undoing l (coreParts p (coreIn p) k)))
+        subst (λ (k : Counters). Rolling (undoing l p) (undoing l (withCounters k p)))
         (none-undone (p .counters) (l .stacked - l .stacked) (omega arith)) (rolling-start (undoing l p) inv);
   }
 
@@ -109,7 +109,7 @@ module _ (l : ExecuteLent) where
         subst (λ (n : ℕ). Executing (executing l p)
         (executing (executeChanged l (l .executed) n (l .awaiting) (l .stack) (l .registers) (l .saved) (l .responses))
         (withExecutions (l .executed - l .executed) p)) (replicate mostReplies none) 0) (sym idle)
-        (subst (λ (k : Counters). Executing (executing l p) (executing l (coreParts p (coreIn p) k)) (replicate mostReplies none) 0)
+        (subst (λ (k : Counters). Executing (executing l p) (executing l (withCounters k p)) (replicate mostReplies none) 0)
         (none-executed (p .counters) (l .executed - l .executed) (omega arith)) (executing-start (executing l p) none inv idle is));
   }
 

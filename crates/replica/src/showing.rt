@@ -7,7 +7,7 @@ use request::refusal;
 use store::requests as stored;
 ghost use Rattle.creek.specs.Showing.{requestsShown, commitsShown, undosShown, executionsShown, owedShown};
 ghost use Rattle.replica.specs.Shown.{committedShown};
-ghost use Rattle.replica.specs.internal.Parts.{Asks, Shows, withOrdered, withCommitted, withCommits, withCounters, withBoard, RegisterKept, PlaceAsks, PlaceKept};
+ghost use Rattle.replica.specs.internal.Parts.{Asks, Shows, withOrdered, withCommitted, withCommits, withCounters, withOwed, RegisterKept, PlaceAsks, PlaceKept};
 
 // The value of register k.
 pub fn register(registers: &[u32; 64], k: u8) -> RegisterValue
@@ -63,8 +63,8 @@ pub fn executions(counters: Counters) -> u32
 
 // The steps owed.
 pub fn owed(ordered: usize, executed: usize, stacked: usize) -> usize
-    requires { ⌜ Asks (withBoard ordered executed stacked) ⌝ }
-    ensures { λ n. ⌜ Shows (withBoard ordered executed stacked) owedShown n ⌝ }
+    requires { ⌜ Asks (withOwed ordered executed stacked) ⌝ }
+    ensures { λ n. ⌜ Shows (withOwed ordered executed stacked) owedShown n ⌝ }
 {
     (stacked - executed) + (ordered - executed)
 }

@@ -23,7 +23,7 @@ use Rattle.creek.specs.Book.{undo, execute, refusal}
 use Rattle.creek.specs.Replies.{noMark, refusedWith, reply, replyAnswer, replyIn, stepsDone, namedByRefusal}
 use Rattle.replica.specs.State.{State}
 use Rattle.replica.specs.internal.Cores.{coreIn}
-use Rattle.replica.specs.internal.Parts.{coreParts}
+use Rattle.replica.specs.internal.Parts.{withCounters}
 use Rattle.replica.specs.Promises.{Kept}
 use Rattle.replica.specs.internal.Model.{bookOf, Inv}
 use Rattle.steps.specs.Lent.{UndoLent, undoChanged, undoing, ExecuteLent, executeChanged, executing}
@@ -55,7 +55,7 @@ module _ (l : UndoLent) where
         kept = λ p inv.
             subst (λ (k : Counters). Kept (undoing l p) undo (record {
               answer = refusedWith refused.nothingToUndo noNumber;
-              state = coreParts (undoing l p) (coreIn (undoing l p)) k;
+              state = withCounters k (undoing l p);
             }))
             (none-undone (p .counters) 0 refl)
             (kept-refused (undoing l p) undo refused.nothingToUndo _ inv (undo-refused (undoing l p) inv idle) (λ e. omega arith) refl);
@@ -127,7 +127,7 @@ module _ (l : ExecuteLent) where
     kept = λ p inv.
         subst (λ (k : Counters). Kept (executing l p) execute (record {
           answer = refusedWith word noNumber;
-          state = coreParts (executing l p) (coreIn (executing l p)) k;
+          state = withCounters k (executing l p);
         }))
         (none-executed (p .counters) 0 refl)
         (kept-refused (executing l p) execute word _ inv (by p inv) refuses refl);

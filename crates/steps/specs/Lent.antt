@@ -7,7 +7,7 @@ use Rattle.counters.specs.Counted.{undosCounted, executionsCounted}
 use Rattle.replica.specs.declared.Core.{Core}
 use Rattle.replica.specs.State.{State, packed}
 use Rattle.replica.specs.internal.Cores.{coreIn, withBoard}
-use Rattle.replica.specs.internal.Parts.{coreParts}
+use Rattle.replica.specs.internal.Parts.{withCounters}
 
 -- what a reference refers to at a function's entry and at its exit
 abbrev Lent : Type 0 → Type 0
@@ -136,7 +136,7 @@ executing l p =
 
 -- a panel with so many further steps counted
 abbrev pub withUndos : ℕ → State → State
-withUndos steps p = coreParts p (coreIn p) (undosCounted (p .counters) steps)
+withUndos steps p = withCounters (undosCounted (p .counters) steps) p
 
 abbrev pub withExecutions : ℕ → State → State
-withExecutions steps p = coreParts p (coreIn p) (executionsCounted (p .counters) steps)
+withExecutions steps p = withCounters (executionsCounted (p .counters) steps) p

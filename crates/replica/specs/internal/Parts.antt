@@ -126,8 +126,8 @@ withCommits commits p = withNumbers (p .committed) (p .ordered) (p .executed) (p
 abbrev pub withCounters : Counters → State → State
 withCounters counters p = withNumbers (p .committed) (p .ordered) (p .executed) (p .stacked) (p .commits) counters p
 
-abbrev pub withBoard : ℕ → ℕ → ℕ → State → State
-withBoard ordered executed stacked p = withNumbers (p .committed) ordered executed stacked (p .commits) (p .counters) p
+abbrev pub withOwed : ℕ → ℕ → ℕ → State → State
+withOwed ordered executed stacked p = withNumbers (p .committed) ordered executed stacked (p .commits) (p .counters) p
 
 -- n is what is shown of every panel with those parts
 pub record Shows (parts : State → State) (show : Replica → ℕ) (n : ℕ) : Type 0 where
