@@ -36,7 +36,9 @@ impl Board for Handwritten {
 
     fn read(&self, bytes: &[u8], at: usize) -> Reading {
         match wire::parse(bytes, at) {
-            Parsed::Message(message, taken) => Reading { refusal: 0, taken, message: (&message).into() },
+            Parsed::Message(message, taken) => {
+                Reading { message: (&message).into(), taken: taken as u64, refusal: 0 }
+            }
             Parsed::End => Reading::default(),
             Parsed::Refused(refusal) => Reading { refusal, ..Reading::default() },
         }
@@ -44,7 +46,7 @@ impl Board for Handwritten {
 
     fn write(&self, message: &Message, out: &mut [u8]) -> Written {
         let (refusal, bytes) = wire::write(&message.into(), out);
-        Written { refusal, bytes }
+        Written { bytes: bytes as u64, refusal }
     }
 }
 
@@ -52,10 +54,10 @@ impl Board for Handwritten {
 impl From<&wire::Message> for Message {
     fn from(message: &wire::Message) -> Message {
         match message {
-            wire::Message::Request(request) => Message { settles: 0, request: request.into() },
+            wire::Message::Request(request) => Message { request: request.into(), settles: 0 },
             wire::Message::Settlement(number) => {
                 let request = request::Request { number: *number, ..request::Request::default() };
-                Message { settles: 1, request: (&request).into() }
+                Message { request: (&request).into(), settles: 1 }
             }
         }
     }

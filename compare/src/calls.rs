@@ -40,7 +40,7 @@ pub fn run(bytes: &[u8], out: &mut [u8]) -> Ran {
     for (call, answer) in each(bytes).zip(out.chunks_exact_mut(ANSWER_SIZE)) {
         put_answer(&carry(&mut panel, &decode(call)), answer);
     }
-    Ran { refusal, ran }
+    Ran { refusal, ran: ran as u64 }
 }
 
 /// The panel that the first two bytes ask for.

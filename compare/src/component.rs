@@ -3,6 +3,7 @@
 
 use crate::header::*;
 use crate::panel;
+use crate::refusal::ACCEPTED;
 use crate::request::Clock;
 use crate::wire::{self, Message, Parsed};
 
@@ -50,7 +51,7 @@ impl Default for OwnPanel {
 #[inline]
 fn told(answer: panel::Answer) -> Answer {
     let panel::Answer { refusal, request, number, response, mark } = answer;
-    Answer { refusal, request: (&request).into(), number: number.into(), response, mark }
+    Answer { request: (&request).into(), response, number: number.into(), refusal, mark }
 }
 
 impl Component for OwnPanel {
@@ -62,7 +63,7 @@ impl Component for OwnPanel {
 
     fn invoke(&mut self, invocation: Invocation) -> Answer {
         let Invocation { asked, clock } = invocation;
-        told(self.0.make(asked.operation.into(), asked.strong != 0, Clock(clock)))
+        told(self.0.make(asked.operation(), asked.strong != 0, Clock(clock)))
     }
 
     fn deliver(&mut self, request: Request) -> Answer {
@@ -76,10 +77,10 @@ impl Component for OwnPanel {
     fn receive(&mut self, bytes: &[u8], at: usize) -> Receipt {
         match wire::parse(bytes, at) {
             Parsed::Message(Message::Request(request), taken) => {
-                Receipt { taken, answer: told(self.0.hear(&request)) }
+                Receipt { taken: taken as u64, answer: told(self.0.hear(&request)) }
             }
             Parsed::Message(Message::Settlement(number), taken) => {
-                Receipt { taken, answer: told(self.0.settle(number)) }
+                Receipt { taken: taken as u64, answer: told(self.0.settle(number)) }
             }
             Parsed::End => Receipt::default(),
             Parsed::Refused(refusal) => Receipt { taken: 0, answer: Answer { refusal, ..Answer::default() } },
@@ -96,12 +97,14 @@ impl Component for OwnPanel {
 
     fn run_due(&mut self) -> Due {
         let mut due = Due::default();
+        let mut count = 0;
         (due.undos, due.executions) = self.0.run_due_telling(|number, response, mark| {
             if mark != panel::MARK_NONE {
-                due.replies[due.count] = Reply { number: number.into(), response, mark };
-                due.count += 1;
+                due.replies[count] = Reply { number: number.into(), response, mark, refusal: ACCEPTED };
+                count += 1;
             }
         });
+        due.count = count as u64;
         due
     }
 

@@ -65,16 +65,16 @@ impl Outcome {
             Function::Print => (0, board.print(&case.bytes, out)),
             Function::Run => {
                 let Ran { refusal, ran } = board.run(&case.bytes, out);
-                (refusal, ran)
+                (refusal, ran as usize)
             }
             Function::Read => {
                 let Reading { refusal, taken, message } = board.read(&case.bytes, case.at);
                 self.message = message;
-                (refusal, taken)
+                (refusal, taken as usize)
             }
             Function::Write => {
                 let Written { refusal, bytes } = board.write(&fields::message(&case.bytes), out);
-                (refusal, bytes)
+                (refusal, bytes as usize)
             }
         };
     }

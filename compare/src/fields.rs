@@ -26,11 +26,10 @@ pub fn of_message(message: &Message) -> [u8; FIELDS_SIZE] {
     fields[PANEL] = request.number.panel;
     fields[EVENT] = request.number.event;
     fields[CLOCK..CODE].copy_from_slice(&request.clock.to_le_bytes());
-    let operation = request.asked.operation;
-    fields[CODE] = operation.code;
-    fields[R] = operation.r;
-    fields[Q] = operation.q;
-    fields[AMOUNT..CONTEXT].copy_from_slice(&operation.amount.to_le_bytes());
+    fields[CODE] = request.asked.code;
+    fields[R] = request.asked.r;
+    fields[Q] = request.asked.q;
+    fields[AMOUNT..CONTEXT].copy_from_slice(&request.asked.amount.to_le_bytes());
     for (word, bytes) in request.context.iter().zip(fields[CONTEXT..].chunks_exact_mut(8)) {
         bytes.copy_from_slice(&word.to_le_bytes());
     }
@@ -46,14 +45,15 @@ pub fn message(bytes: &[u8]) -> Message {
     for (word, bytes) in context.iter_mut().zip(fields[CONTEXT..].chunks_exact(8)) {
         *word = u64::from_le_bytes(bytes.try_into().expect("chunks of eight"));
     }
-    let operation =
-        Operation { code: fields[CODE], r: fields[R], q: fields[Q], amount: u32_at(&fields, AMOUNT) };
-    let request = Request {
-        number: Number { panel: fields[PANEL], event: fields[EVENT] },
-        clock: u32_at(&fields, CLOCK),
-        asked: Asked { operation, strong: flag_at(&fields, STRONG) },
-        context,
+    let asked = Asked {
+        amount: u32_at(&fields, AMOUNT),
+        code: fields[CODE],
+        r: fields[R],
+        q: fields[Q],
+        strong: flag_at(&fields, STRONG),
     };
+    let number = Number { panel: fields[PANEL], event: fields[EVENT] };
+    let request = Request { context, asked, clock: u32_at(&fields, CLOCK), number };
     Message { settles: flag_at(&fields, SETTLES), request }
 }
 

@@ -17,18 +17,12 @@ pub struct Number {
 
 #[repr(C)]
 #[derive(Clone, Copy, Debug, Default, PartialEq, Eq)]
-pub struct Operation {
+pub struct Asked {
+    pub amount: u32,
     pub code: u8,
     pub r: u8,
     pub q: u8,
-    pub amount: u32,
-}
-
-#[repr(C)]
-#[derive(Clone, Copy, Debug, Default, PartialEq, Eq)]
-pub struct Asked {
     pub strong: u8,
-    pub operation: Operation,
 }
 
 #[repr(C)]
@@ -41,57 +35,59 @@ pub struct Invocation {
 #[repr(C)]
 #[derive(Clone, Copy, Debug, Default, PartialEq, Eq)]
 pub struct Request {
-    pub number: Number,
-    pub clock: u32,
-    pub asked: Asked,
     pub context: [u64; request::PANELS],
+    pub asked: Asked,
+    pub clock: u32,
+    pub number: Number,
 }
 
 #[repr(C)]
 #[derive(Clone, Copy, Debug, Default, PartialEq, Eq)]
 pub struct Answer {
-    pub refusal: u8,
     pub request: Request,
-    pub number: Number,
     pub response: u32,
+    pub number: Number,
+    pub refusal: u8,
     pub mark: u8,
 }
 
 #[repr(C)]
 #[derive(Clone, Copy, Debug, Default, PartialEq, Eq)]
 pub struct Message {
-    pub settles: u8,
     pub request: Request,
+    pub settles: u8,
 }
 
 #[repr(C)]
 #[derive(Clone, Copy, Debug, Default, PartialEq, Eq)]
 pub struct Reading {
-    pub refusal: u8,
-    pub taken: usize,
     pub message: Message,
+    pub taken: u64,
+    pub refusal: u8,
 }
 
 #[repr(C)]
 #[derive(Clone, Copy, Debug, Default, PartialEq, Eq)]
 pub struct Written {
+    pub bytes: u64,
     pub refusal: u8,
-    pub bytes: usize,
 }
 
 #[repr(C)]
 #[derive(Clone, Copy, Debug, Default, PartialEq, Eq)]
 pub struct Receipt {
-    pub taken: usize,
     pub answer: Answer,
+    pub taken: u64,
 }
 
+/// Its refusal is 0.
 #[repr(C)]
 #[derive(Clone, Copy, Debug, Default, PartialEq, Eq)]
 pub struct Reply {
-    pub number: Number,
     pub response: u32,
+    pub number: Number,
     pub mark: u8,
+    pub refusal: u8,
 }
 
 #[repr(C)]
@@ -99,7 +95,7 @@ pub struct Reply {
 pub struct Due {
     pub undos: u32,
     pub executions: u32,
-    pub count: usize,
+    pub count: u64,
     pub replies: [Reply; MOST_REPLIES],
 }
 
@@ -112,23 +108,41 @@ impl Default for Due {
 #[repr(C)]
 #[derive(Clone, Copy, Debug, Default, PartialEq, Eq)]
 pub struct Value {
-    pub refusal: u8,
     pub value: u32,
+    pub refusal: u8,
 }
 
 #[repr(C)]
 #[derive(Clone, Copy, Debug, Default, PartialEq, Eq)]
 pub struct Placed {
-    pub refusal: u8,
     pub request: Request,
+    pub refusal: u8,
 }
 
 #[repr(C)]
 #[derive(Clone, Copy, Debug, Default, PartialEq, Eq)]
 pub struct Ran {
+    pub ran: u64,
     pub refusal: u8,
-    pub ran: usize,
 }
+
+/// The sizes that the header asserts.
+const _: () = {
+    assert!(size_of::<Number>() == 2);
+    assert!(size_of::<Asked>() == 8);
+    assert!(size_of::<Invocation>() == 12);
+    assert!(size_of::<Request>() == 80);
+    assert!(size_of::<Answer>() == 88);
+    assert!(size_of::<Message>() == 88);
+    assert!(size_of::<Reading>() == 104);
+    assert!(size_of::<Written>() == 16);
+    assert!(size_of::<Receipt>() == 96);
+    assert!(size_of::<Reply>() == 8);
+    assert!(size_of::<Due>() == 528);
+    assert!(size_of::<Value>() == 8);
+    assert!(size_of::<Placed>() == 88);
+    assert!(size_of::<Ran>() == 16);
+};
 
 impl From<request::Number> for Number {
     #[inline]
@@ -144,25 +158,16 @@ impl From<Number> for request::Number {
     }
 }
 
-impl From<request::Operation> for Operation {
-    #[inline]
-    fn from(operation: request::Operation) -> Operation {
-        let request::Operation { code, r, q, amount } = operation;
-        Operation { code, r, q, amount }
-    }
-}
-
-impl From<Operation> for request::Operation {
-    #[inline]
-    fn from(operation: Operation) -> request::Operation {
-        request::Operation::new(operation.code, operation.r, operation.q, operation.amount)
-    }
-}
-
 impl Asked {
     #[inline]
     pub fn new(operation: request::Operation, strong: bool) -> Asked {
-        Asked { operation: operation.into(), strong: strong as u8 }
+        let request::Operation { code, r, q, amount } = operation;
+        Asked { amount, code, r, q, strong: strong as u8 }
+    }
+
+    #[inline]
+    pub fn operation(&self) -> request::Operation {
+        request::Operation::new(self.code, self.r, self.q, self.amount)
     }
 }
 
@@ -170,10 +175,10 @@ impl From<&request::Request> for Request {
     #[inline]
     fn from(request: &request::Request) -> Request {
         Request {
-            number: request.number.into(),
-            clock: request.clock.0,
-            asked: Asked::new(request.operation, request.strong),
             context: request.context.0,
+            asked: Asked::new(request.operation, request.strong),
+            clock: request.clock.0,
+            number: request.number.into(),
         }
     }
 }
@@ -184,7 +189,7 @@ impl From<&Request> for request::Request {
         request::Request {
             number: request.number.into(),
             clock: request::Clock(request.clock),
-            operation: request.asked.operation.into(),
+            operation: request.asked.operation(),
             strong: request.asked.strong != 0,
             context: request::NumberSet(request.context),
         }

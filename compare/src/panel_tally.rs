@@ -52,7 +52,9 @@ impl PanelTally {
             Outcome::Due(due) => {
                 self.due += 1;
                 self.count_call(ACCEPTED);
-                due.replies[..due.count].iter().for_each(|reply| self.replies[reply.mark as usize] += 1);
+                due.replies[..due.count as usize]
+                    .iter()
+                    .for_each(|reply| self.replies[reply.mark as usize] += 1);
             }
         }
     }

@@ -28,7 +28,7 @@ impl Board for Faulty {
 
     fn run(&self, calls: &[u8], out: &mut [u8]) -> Ran {
         let ran = Handwritten.run(calls, out);
-        for answer in out.chunks_exact_mut(ANSWER_SIZE).take(ran.ran) {
+        for answer in out.chunks_exact_mut(ANSWER_SIZE).take(ran.ran as usize) {
             if answer[1] == MARK_STABLE {
                 answer[1] = MARK_TENTATIVE;
             }

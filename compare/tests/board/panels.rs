@@ -55,7 +55,7 @@ impl<const FAULT: u8> Component for Faulty<FAULT> {
         let mut receipt = self.panel.receive(bytes, at);
         self.noted(receipt.answer);
         if FAULT == TAKEN && receipt.answer.refusal == SPARE_SET {
-            receipt.taken = bytes[at] as usize;
+            receipt.taken = bytes[at] as u64;
         }
         receipt
     }
@@ -182,7 +182,7 @@ fn the_calls_answer_as_the_header_says() {
     assert_eq!((made.number, made.clock, made.asked), (Number { panel: 1, event: 1 }, 5, asked));
     let due = panel.run_due();
     assert_eq!((due.undos, due.executions, due.count), (0, 1, 1));
-    let reply = Reply { number: made.number, response: 7, mark: 2 };
+    let reply = Reply { response: 7, number: made.number, mark: 2, refusal: ACCEPTED };
     assert_eq!((due.replies[0], due.replies[1]), (reply, Reply::default()));
     assert_eq!(panel.deliver((&weak(0, 1, 1, set(0, 8))).into()), Answer::default());
     assert_eq!((panel.owed(), panel.requests(), panel.committed()), (3, 2, 0));

@@ -35,9 +35,8 @@ impl Board for Faulty {
             heard.for_each(|call| call[CLOCK_IN_CALL] &= 0xfe);
         }
         let ran = Handwritten.run(&changed, out);
-        for answer in
-            out.chunks_exact_mut(ANSWER_SIZE).take(ran.ran).filter(|answer| answer[1] == MARK_STABLE)
-        {
+        let answers = out.chunks_exact_mut(ANSWER_SIZE).take(ran.ran as usize);
+        for answer in answers.filter(|answer| answer[1] == MARK_STABLE) {
             answer[4] = answer[4].wrapping_add((list[1] == 0) as u8);
         }
         ran
@@ -253,7 +252,7 @@ struct Refusing;
 impl Board for Refusing {
     fn run(&self, list: &[u8], out: &mut [u8]) -> Ran {
         out.iter_mut().step_by(ANSWER_SIZE).for_each(|refusal| *refusal = NOTHING_TO_DO);
-        Ran { refusal: ACCEPTED, ran: calls::count(list) }
+        Ran { refusal: ACCEPTED, ran: calls::count(list) as u64 }
     }
 
     fn print(&self, input: &[u8], out: &mut [u8]) -> usize {

@@ -135,10 +135,10 @@ fn message_rows() -> Vec<Row> {
     let message = (&Message::Request(strong)).into();
     let mut part = [0; STRONG_LENGTH];
     let read = time_over_bytes("parse", &mut |board| {
-        assert_eq!(black_box(&board.read(black_box(&bytes), 0)).taken, STRONG_LENGTH);
+        assert_eq!(black_box(&board.read(black_box(&bytes), 0)).taken as usize, STRONG_LENGTH);
     });
     let write = time_over_bytes("write", &mut |board| {
-        assert_eq!(board.write(black_box(&message), black_box(&mut part)).bytes, STRONG_LENGTH);
+        assert_eq!(board.write(black_box(&message), black_box(&mut part)).bytes as usize, STRONG_LENGTH);
     });
     assert_eq!(bytes, part[..]);
     vec![
