@@ -1,4 +1,4 @@
-//! Links the proved library where the feature `proved` asks for it.
+//! Links the two proved libraries where the feature `proved` asks for it.
 
 use std::env;
 use std::path::Path;
@@ -13,7 +13,9 @@ fn main() {
         Path::new(&crate_folder).join("../target/staticlib/libmizzencord.a").display().to_string()
     });
     let folder = Path::new(&library).parent().expect("a library stands in a folder");
-    println!("cargo:rerun-if-changed={library}");
     println!("cargo:rustc-link-search=native={}", folder.display());
-    println!("cargo:rustc-link-lib=static=mizzencord");
+    for name in ["mizzencord", "mizzencord_tools"] {
+        println!("cargo:rerun-if-changed={}", folder.join(format!("lib{name}.a")).display());
+        println!("cargo:rustc-link-lib=static={name}");
+    }
 }
