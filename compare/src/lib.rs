@@ -17,6 +17,8 @@ pub mod fields;
 pub mod fingerprint;
 pub mod header;
 pub mod histories;
+pub mod library;
+pub mod library_panel;
 pub mod memory;
 pub mod moves;
 pub mod panel;
@@ -27,8 +29,6 @@ pub mod panel_tally;
 pub mod panel_test;
 pub mod printout;
 pub mod progress;
-#[cfg(feature = "proved")]
-pub mod proved;
 pub mod random;
 pub mod refusal;
 pub mod replay;

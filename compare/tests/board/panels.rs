@@ -173,9 +173,7 @@ fn a_panel_is_no_different_from_itself() {
 }
 
 /// Every answer of a small shift, worked out by hand from document 01.
-#[test]
-fn the_calls_answer_as_the_header_says() {
-    let mut panel = OwnPanel::new();
+pub fn answers_as_the_header_says(panel: &mut impl Component) {
     assert_eq!((panel.fresh(9, 0), panel.fresh(3, 3), panel.fresh(2, 1)), (1, 1, 0));
     let asked = Asked::new(claim(0, 7), true);
     let made = panel.invoke(Invocation { asked, clock: 5 }).request;
@@ -207,4 +205,9 @@ fn the_calls_answer_as_the_header_says() {
     let missing = Number { panel: 0, event: 9 };
     let answer = panel.commit(waits.number.into());
     assert_eq!(answer, Answer { refusal: WAITS, number: missing, ..Answer::default() });
+}
+
+#[test]
+fn the_calls_answer_as_the_header_says() {
+    answers_as_the_header_says(&mut OwnPanel::new());
 }

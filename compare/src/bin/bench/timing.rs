@@ -6,9 +6,10 @@ use std::time::Instant;
 use mizzencord_compare::board::Board;
 use mizzencord_compare::component::Component;
 use mizzencord_compare::header::*;
+use mizzencord_compare::library::Proved;
+use mizzencord_compare::library_panel::Panel;
 use mizzencord_compare::memory::{Start, Watched};
 use mizzencord_compare::progress::progress;
-use mizzencord_compare::proved::{Panel, Proved};
 use mizzencord_compare::random::Call;
 use mizzencord_compare::request::PANELS;
 
@@ -143,7 +144,7 @@ impl Work {
     }
 }
 
-fn library_panel() -> Panel {
+fn library_panel() -> Panel<Proved> {
     Panel::fresh_on(&Start::ZEROS, PANELS as u8, PANELS as u8 - 1).1
 }
 
@@ -171,7 +172,7 @@ const PLACES: usize = 8;
 /// What the timed calls take.
 pub fn time_of(name: &str, work: &Work) -> Times {
     progress(name);
-    let mut proved: Vec<Panel> = (0..PLACES).map(|_| library_panel()).collect();
+    let mut proved: Vec<Panel<Proved>> = (0..PLACES).map(|_| library_panel()).collect();
     let mut handwritten: Vec<Behind> = (0..PLACES).map(|_| Behind::default()).collect();
     let runs = (work.runs(&mut proved[0]), work.runs(&mut handwritten[0]));
     in_turn(
