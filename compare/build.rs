@@ -1,5 +1,5 @@
-//! Builds the peer in C with the system's compiler, and links the two proved
-//! libraries where the feature `proved` asks for them.
+//! Builds the peer in C, and links the two proved libraries where the feature
+//! `proved` asks for them.
 
 use std::path::{Path, PathBuf};
 use std::process::Command;
@@ -19,7 +19,7 @@ fn build_peer(crate_folder: &Path, out: &Path) {
     println!("cargo:rerun-if-changed={}", folder.display());
     println!("cargo:rerun-if-changed={}", include.display());
     println!("cargo:rerun-if-env-changed=CC");
-    let compiler = env::var("CC").unwrap_or_else(|_| "cc".into());
+    let compiler = env::var("CC").unwrap_or_else(|_| usual_compiler().into());
     let mut archiver = Command::new("ar");
     archiver.arg("rcs").arg(out.join("libpeer.a"));
     for file in c_files(&folder) {
@@ -32,6 +32,17 @@ fn build_peer(crate_folder: &Path, out: &Path) {
     run(&mut archiver);
     println!("cargo:rustc-link-search=native={}", out.display());
     println!("cargo:rustc-link-lib=static=peer");
+}
+
+/// Clang where there is one, since the proved library is LLVM's too, and else the
+/// system's compiler.
+fn usual_compiler() -> &'static str {
+    let clang = Command::new("clang").arg("--version").output();
+    if clang.is_ok_and(|told| told.status.success()) {
+        "clang"
+    } else {
+        "cc"
+    }
 }
 
 fn c_files(folder: &Path) -> Vec<PathBuf> {

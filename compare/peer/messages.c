@@ -3,18 +3,23 @@
 #include "settle.h"
 #include "wire.h"
 
+/* What stands at a place: a message's head, or how it is refused; a length of 0 without a refusal is the end. */
+static inline head head_at(const uint8_t *bytes, size_t length, size_t at) {
+    return seldom(at >= length) ? (head){0} : judge(bytes + at, length - at);
+}
+
 mizzencord_reading mizzencord_read(const uint8_t *bytes, size_t length, size_t at) {
     mizzencord_reading reading;
-    if (seldom(at >= length)) return (mizzencord_reading){0};
-    head found = judge(bytes + at, length - at);
-    if (seldom(found.refusal != MIZZENCORD_ACCEPTED)) return (mizzencord_reading){.refusal = found.refusal};
-    reading.taken = found.length;
-    reading.refusal = MIZZENCORD_ACCEPTED;
-    reading.message.settles = found.kind == SETTLEMENT;
-    if (found.kind == SETTLEMENT)
-        reading.message.request = (mizzencord_request){.number = number_at(bytes + at)};
-    else
+    head found = head_at(bytes, length, at);
+    if (found.kind == WEAK || found.kind == STRONG) {
         request_at(bytes + at, found.kind, &reading.message.request);
+    } else {
+        reading.message.request = (mizzencord_request){0};
+        if (found.kind == SETTLEMENT) reading.message.request.number = number_at(bytes + at);
+    }
+    reading.message.settles = found.kind == SETTLEMENT;
+    reading.taken = found.length;
+    reading.refusal = found.refusal;
     return reading;
 }
 
@@ -27,9 +32,8 @@ mizzencord_written mizzencord_write(mizzencord_message message, uint8_t *out, si
 
 mizzencord_receipt mizzencord_receive(mizzencord_panel *panel, const uint8_t *bytes, size_t length, size_t at) {
     mizzencord_receipt receipt = {0};
-    if (seldom(at >= length)) return receipt;
-    head found = judge(bytes + at, length - at);
-    if (seldom(found.refusal != MIZZENCORD_ACCEPTED)) {
+    head found = head_at(bytes, length, at);
+    if (seldom(found.kind == 0)) {
         receipt.answer.refusal = found.refusal;
         return receipt;
     }
