@@ -10,11 +10,11 @@ pub struct Times {
 }
 
 impl Times {
-    pub fn to_rust(&self) -> Option<f64> {
+    pub fn to_rust(self) -> Option<f64> {
         self.proved.map(|proved| proved / self.rust)
     }
 
-    pub fn to_c(&self) -> Option<f64> {
+    pub fn to_c(self) -> Option<f64> {
         self.proved.map(|proved| proved / self.c)
     }
 
