@@ -1,16 +1,16 @@
 //! The comparison panel by panel: planted faults are found and shrunk to the
 //! calls that show them, and this crate's panel does not differ from itself.
 
-use mizzencord_compare::component::{Component, OwnPanel};
-use mizzencord_compare::header::*;
-use mizzencord_compare::memory::{Start, Watched};
-use mizzencord_compare::panel_case::PanelCase;
-use mizzencord_compare::panel_draw;
-use mizzencord_compare::panel_pair::Step;
-use mizzencord_compare::panel_tally::PanelTally;
+use mizzencord_compare::interface::component::{Component, OwnPanel};
+use mizzencord_compare::interface::header::*;
+use mizzencord_compare::interface::memory::{Start, Watched};
 use mizzencord_compare::panel_test;
-use mizzencord_compare::random::Call;
-use mizzencord_compare::refusal::*;
+use mizzencord_compare::panel_test::case::PanelCase;
+use mizzencord_compare::panel_test::draw;
+use mizzencord_compare::panel_test::pair::Step;
+use mizzencord_compare::panel_test::tally::PanelTally;
+use mizzencord_compare::replica::call::Call;
+use mizzencord_compare::replica::refusal::*;
 
 use crate::build::{claim, set, strong, weak};
 
@@ -126,7 +126,7 @@ impl<const FAULT: u8> Watched for Faulty<FAULT> {
 
 /// The least case that shows a fault, and its words.
 fn least<const FAULT: u8>() -> (PanelCase, String) {
-    let mut cases = (0..2000).map(|seed| panel_draw::shift(seed, 60));
+    let mut cases = (0..2000).map(|seed| draw::shift(seed, 60));
     let found = cases.find(|case| case.run::<Faulty<FAULT>>(&mut PanelTally::default()).is_some());
     let small = found.expect("a shift that shows it").shrunk::<Faulty<FAULT>>();
     let told = small.told::<Faulty<FAULT>>();

@@ -1,14 +1,14 @@
 //! The peer in C: that it answers as the header says, through its structs, and as
 //! this crate does on a part of what `compare/test --peer` compares.
 
-use mizzencord_compare::board::Handwritten;
-use mizzencord_compare::cases;
-use mizzencord_compare::difference::differ;
-use mizzencord_compare::library::Peer;
-use mizzencord_compare::library_panel::Panel;
-use mizzencord_compare::memory::{Fill, Start, Watched};
-use mizzencord_compare::panel_tally::PanelTally;
+use mizzencord_compare::byte_test::cases;
+use mizzencord_compare::byte_test::difference::differ;
+use mizzencord_compare::interface::board::Handwritten;
+use mizzencord_compare::interface::library::Peer;
+use mizzencord_compare::interface::library_panel::Panel;
+use mizzencord_compare::interface::memory::{Fill, Start, Watched};
 use mizzencord_compare::panel_test;
+use mizzencord_compare::panel_test::tally::PanelTally;
 
 use crate::panels::answers_as_the_header_says;
 

@@ -1,9 +1,9 @@
 //! Rows of what comes over the bus at once: a buffer of messages, and what a
 //! panel missed.
 
-use mizzencord_compare::random::Call;
-use mizzencord_compare::refusal::ACCEPTED;
-use mizzencord_compare::wire::Message;
+use mizzencord_compare::replica::call::Call;
+use mizzencord_compare::replica::refusal::ACCEPTED;
+use mizzencord_compare::replica::wire::Message;
 
 use crate::limits::{self, Limits};
 use crate::rows::{received_from_a_buffer, Row, MOST_HEARD};

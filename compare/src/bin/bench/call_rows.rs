@@ -1,10 +1,10 @@
 //! Rows of single calls.
 
-use mizzencord_compare::panel::Panel;
-use mizzencord_compare::random::Call;
-use mizzencord_compare::refusal::*;
-use mizzencord_compare::request::*;
-use mizzencord_compare::wire::Message;
+use mizzencord_compare::replica::call::Call;
+use mizzencord_compare::replica::panel::Panel;
+use mizzencord_compare::replica::refusal::*;
+use mizzencord_compare::replica::request::*;
+use mizzencord_compare::replica::wire::Message;
 
 use crate::limits::{self, Limits};
 use crate::rows::{received_alone, Row, MOST_HEARD, MOST_OWN};

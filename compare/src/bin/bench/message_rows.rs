@@ -3,11 +3,11 @@
 use std::hint::black_box;
 use std::time::Instant;
 
-use mizzencord_compare::board::{Board, MOST_PRINTED};
-use mizzencord_compare::header;
-use mizzencord_compare::random::append;
-use mizzencord_compare::request::*;
-use mizzencord_compare::wire::{Message, STRONG_LENGTH};
+use mizzencord_compare::interface::board::{Board, MOST_PRINTED};
+use mizzencord_compare::interface::header;
+use mizzencord_compare::replica::request::*;
+use mizzencord_compare::replica::wire::append;
+use mizzencord_compare::replica::wire::{Message, STRONG_LENGTH};
 
 use crate::limits;
 use crate::rows::{Row, MOST_HEARD};

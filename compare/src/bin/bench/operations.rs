@@ -1,6 +1,6 @@
 //! The operations of the shifts that are timed, by their places.
 
-use mizzencord_compare::request::*;
+use mizzencord_compare::replica::request::*;
 
 #[derive(Clone, Copy)]
 pub enum Operations {

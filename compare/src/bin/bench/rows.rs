@@ -2,8 +2,8 @@
 
 use std::sync::Arc;
 
-use mizzencord_compare::random::append;
-use mizzencord_compare::wire::Message;
+use mizzencord_compare::replica::wire::append;
+use mizzencord_compare::replica::wire::Message;
 
 use crate::limits::Limits;
 use crate::sampling::time_of;

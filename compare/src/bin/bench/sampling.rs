@@ -5,13 +5,13 @@ use std::hint::black_box;
 use std::sync::OnceLock;
 use std::time::Instant;
 
-use mizzencord_compare::board::Board;
-use mizzencord_compare::component::Component;
-use mizzencord_compare::library::{Library, Peer};
-use mizzencord_compare::library_panel::Panel;
-use mizzencord_compare::memory::{Start, Watched};
+use mizzencord_compare::interface::board::Board;
+use mizzencord_compare::interface::component::Component;
+use mizzencord_compare::interface::library::{Library, Peer};
+use mizzencord_compare::interface::library_panel::Panel;
+use mizzencord_compare::interface::memory::{Start, Watched};
 use mizzencord_compare::progress::progress;
-use mizzencord_compare::request::PANELS;
+use mizzencord_compare::replica::request::PANELS;
 
 use crate::behind::{Behind, BoardBehind};
 use crate::times::Times;
@@ -92,7 +92,7 @@ fn further_down(frames: usize, act: &mut dyn FnMut() -> f64) -> f64 {
 
 #[cfg(feature = "proved")]
 fn of_proved<'a>(work: &'a Work) -> Option<Sampler<'a>> {
-    Some(sampler(work, library_panel::<mizzencord_compare::library::Proved>))
+    Some(sampler(work, library_panel::<mizzencord_compare::interface::library::Proved>))
 }
 
 #[cfg(not(feature = "proved"))]
@@ -139,7 +139,7 @@ fn byte_sampler<'a, B: Board + 'a>(board: B, mut work: impl ByteWork + 'a) -> Sa
 
 #[cfg(feature = "proved")]
 fn bytes_of_proved<'a>(work: impl ByteWork + 'a) -> Option<Sampler<'a>> {
-    Some(byte_sampler(mizzencord_compare::library::Proved, work))
+    Some(byte_sampler(mizzencord_compare::interface::library::Proved, work))
 }
 
 #[cfg(not(feature = "proved"))]
@@ -174,7 +174,7 @@ fn fresh_sampler<'a>(mut panel: impl Component + 'a) -> Sampler<'a> {
 
 #[cfg(feature = "proved")]
 fn fresh_of_proved<'a>() -> Option<Sampler<'a>> {
-    Some(fresh_sampler(library_panel::<mizzencord_compare::library::Proved>()))
+    Some(fresh_sampler(library_panel::<mizzencord_compare::interface::library::Proved>()))
 }
 
 #[cfg(not(feature = "proved"))]

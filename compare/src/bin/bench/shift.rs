@@ -1,11 +1,13 @@
 //! The shifts that are timed.
 
-use mizzencord_compare::calls;
-use mizzencord_compare::panel::Panel;
-use mizzencord_compare::random::{append, Call, Random};
-use mizzencord_compare::refusal::ACCEPTED;
-use mizzencord_compare::request::*;
-use mizzencord_compare::wire::Message;
+use mizzencord_compare::drawing::random::Random;
+use mizzencord_compare::replica::call::Call;
+use mizzencord_compare::replica::calls;
+use mizzencord_compare::replica::panel::Panel;
+use mizzencord_compare::replica::refusal::ACCEPTED;
+use mizzencord_compare::replica::request::*;
+use mizzencord_compare::replica::wire::append;
+use mizzencord_compare::replica::wire::Message;
 
 use crate::operations::Operations;
 

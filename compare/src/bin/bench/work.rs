@@ -4,11 +4,11 @@ use std::hint::black_box;
 use std::sync::Arc;
 use std::time::Instant;
 
-use mizzencord_compare::component::Component;
-use mizzencord_compare::header::*;
-use mizzencord_compare::random::Call;
-use mizzencord_compare::refusal::ACCEPTED;
-use mizzencord_compare::request::PANELS;
+use mizzencord_compare::interface::component::Component;
+use mizzencord_compare::interface::header::*;
+use mizzencord_compare::replica::call::Call;
+use mizzencord_compare::replica::refusal::ACCEPTED;
+use mizzencord_compare::replica::request::PANELS;
 
 use crate::behind::Behind;
 

@@ -4,11 +4,11 @@
 use std::path::Path;
 use std::{env, fs, io, process};
 
-use mizzencord_compare::board::{Board, Handwritten, MOST_PRINTED};
-use mizzencord_compare::cases;
-use mizzencord_compare::difference::{Case, Function, Outcome};
+use mizzencord_compare::byte_test::cases;
+use mizzencord_compare::byte_test::difference::{Case, Function, Outcome};
+use mizzencord_compare::drawing::random::Random;
+use mizzencord_compare::interface::board::{Board, Handwritten, MOST_PRINTED};
 use mizzencord_compare::progress::{progress, progress_ends};
-use mizzencord_compare::random::Random;
 
 use crate::counts::Counts;
 use crate::{Side, PROGRESS_LINES};

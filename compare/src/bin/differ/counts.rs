@@ -1,12 +1,12 @@
 //! What was compared over bytes so far, and what that comes to in words.
 
-use mizzencord_compare::calls::{self, ANSWER_SIZE};
-use mizzencord_compare::changes::{LongChanges, LONG};
-use mizzencord_compare::claims::ClaimOutcomes;
+use mizzencord_compare::byte_test::difference::{Case, Function, Outcome};
+use mizzencord_compare::counting::changes::{LongChanges, LONG};
+use mizzencord_compare::counting::claims::ClaimOutcomes;
+use mizzencord_compare::counting::moves::MoveLimits;
 use mizzencord_compare::counting::Counting;
-use mizzencord_compare::difference::{Case, Function, Outcome};
-use mizzencord_compare::moves::MoveLimits;
-use mizzencord_compare::refusal::{ACCEPTED, BAD_SHOP, NO_ROOM, REFUSALS};
+use mizzencord_compare::replica::calls::{self, ANSWER_SIZE};
+use mizzencord_compare::replica::refusal::{ACCEPTED, BAD_SHOP, NO_ROOM, REFUSALS};
 
 #[derive(Default)]
 pub struct Counts {

@@ -8,13 +8,13 @@ mod counts;
 
 use std::{env, io, process};
 
-use mizzencord_compare::board::{Board, Handwritten};
-use mizzencord_compare::library::{Library, Peer};
-use mizzencord_compare::library_panel::Panel;
-use mizzencord_compare::panel_tally::PanelTally;
+use mizzencord_compare::drawing::random::Random;
+use mizzencord_compare::interface::board::{Board, Handwritten};
+use mizzencord_compare::interface::library::{Library, Peer};
+use mizzencord_compare::interface::library_panel::Panel;
+use mizzencord_compare::panel_test::tally::PanelTally;
 use mizzencord_compare::panel_test::{self, Told};
 use mizzencord_compare::progress::{progress, progress_ends};
-use mizzencord_compare::random::Random;
 use mizzencord_compare::shop_test::{Difference, ShopTest};
 
 use asked::{Asked, HELP};
@@ -43,7 +43,7 @@ fn main() -> io::Result<()> {
 
 #[cfg(feature = "proved")]
 fn compare_proved(asked: &Asked) -> io::Result<()> {
-    use mizzencord_compare::library::Proved;
+    use mizzencord_compare::interface::library::Proved;
     compare::<Proved>(&Side { name: "proved", board: &Proved }, asked)
 }
 
