@@ -53,7 +53,8 @@ pub fn message(bytes: &[u8]) -> Message {
         strong: flag_at(&fields, STRONG),
     };
     let number = Number { panel: fields[PANEL], event: fields[EVENT] };
-    let request = Request { context, asked, clock: u32_at(&fields, CLOCK), number };
+    let behind = Nothing::default();
+    let request = Request { context, asked, clock: u32_at(&fields, CLOCK), number, behind };
     Message { settles: flag_at(&fields, SETTLES), request }
 }
 

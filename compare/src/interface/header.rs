@@ -32,6 +32,20 @@ pub struct Invocation {
     pub clock: u32,
 }
 
+/// The two bytes behind a request's number, which hold nothing: whatever is there,
+/// it is the same.
+#[repr(C)]
+#[derive(Clone, Copy, Debug, Default)]
+pub struct Nothing(pub [u8; 2]);
+
+impl PartialEq for Nothing {
+    fn eq(&self, _: &Nothing) -> bool {
+        true
+    }
+}
+
+impl Eq for Nothing {}
+
 #[repr(C)]
 #[derive(Clone, Copy, Debug, Default, PartialEq, Eq)]
 pub struct Request {
@@ -39,6 +53,7 @@ pub struct Request {
     pub asked: Asked,
     pub clock: u32,
     pub number: Number,
+    pub behind: Nothing,
 }
 
 #[repr(C)]
@@ -179,6 +194,7 @@ impl From<&request::Request> for Request {
             asked: Asked::new(request.operation, request.strong),
             clock: request.clock.0,
             number: request.number.into(),
+            behind: Nothing::default(),
         }
     }
 }

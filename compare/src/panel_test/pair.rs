@@ -9,7 +9,7 @@ use crate::interface::memory::{Start, Watched};
 use crate::panel_test::tally::PanelTally;
 use crate::replica::call::Call;
 use crate::replica::refusal::ACCEPTED;
-use crate::replica::request::{REGISTERS, REQUESTS};
+use crate::replica::request::{self, REGISTERS, REQUESTS};
 
 /// What is done with a panel.
 #[derive(Clone, Debug, PartialEq, Eq)]
@@ -51,7 +51,7 @@ impl Outcome {
             Call::Make(operation, strong, clock) => Outcome::Answer(
                 panel.invoke(Invocation { asked: Asked::new(*operation, *strong), clock: clock.0 }),
             ),
-            Call::Hear(request) => Outcome::Answer(panel.deliver(request.into())),
+            Call::Hear(request) => Outcome::Answer(panel.deliver(handed_over(request, panel))),
             Call::Settle(number) => Outcome::Answer(panel.commit((*number).into())),
             Call::Undo => Outcome::Answer(panel.undo()),
             Call::CarryOut => Outcome::Answer(panel.execute()),
@@ -69,6 +69,14 @@ impl Outcome {
             Outcome::Nothing | Outcome::Fresh(_) | Outcome::Due(_) => false,
         }
     }
+}
+
+/// The request with other bytes behind its number whenever the panel has changed,
+/// at which nobody may look.
+fn handed_over(request: &request::Request, panel: &impl Component) -> Request {
+    let steps = panel.undos() + panel.executions();
+    let behind = Nothing([panel.requests() as u8, (panel.commits() + steps) as u8]);
+    Request { behind, ..request.into() }
 }
 
 /// How many calls may pass on a panel that holds many requests until it is
