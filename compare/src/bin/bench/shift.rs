@@ -23,8 +23,9 @@ pub enum Order {
     Shuffled(u64),
 }
 
-/// How many orders of a shuffled shift are timed in turn.
-const ORDERS: u64 = 8;
+/// How many requests the orders of a shuffled shift have together that are timed in
+/// turn: a small shift has more orders, since it is learned sooner.
+const REQUESTS_OF_ALL_ORDERS: usize = 8192;
 
 /// A shift of the last panel of eight, each call followed by all due steps.
 #[derive(Clone, Copy)]
@@ -66,7 +67,8 @@ impl Shift {
     pub fn orders(&self) -> Vec<Shift> {
         match self.order {
             Order::Shuffled(_) => {
-                (0..ORDERS).map(|seed| Shift { order: Order::Shuffled(seed), ..*self }).collect()
+                let seeds = 0..(REQUESTS_OF_ALL_ORDERS / self.requests()) as u64;
+                seeds.map(|seed| Shift { order: Order::Shuffled(seed), ..*self }).collect()
             }
             Order::Rising | Order::Falling => vec![*self],
         }
