@@ -1,14 +1,13 @@
 -- A panel in place, as the state that the contracts of the calls speak of.
 use Rattle.numbers.specs.Numbers.{clockReading}
-use Rattle.replica.specs.declared.Core.{Core}
-use Rattle.replica.specs.State.{State, packed}
+use Rattle.sets.specs.Sets.{setOf}
+use Rattle.replica.specs.State.{State}
 use Rattle.due.specs.declared.DueSteps.{DueSteps}
 use Rattle.due.specs.Due.{DueOutcome}
 use Rattle.mizzencord.specs.declared.Panel.{Panel}
 
--- the core of its numbers
-abbrev pub numbers : Panel → Core
-numbers p = record {
+abbrev pub memory : Panel → State
+memory p = record {
   panels = p .panels;
   own = p .own;
   events = p .events;
@@ -18,12 +17,19 @@ numbers p = record {
   executed = p .executed;
   stacked = p .stacked;
   commits = p .commits;
+  counters = p .counters;
+  held = setOf (p .held);
+  known = setOf (p .known);
+  awaiting = setOf (p .awaiting);
+  clocks = p .clocks;
+  operations = p .operations;
+  contexts = p .contexts;
+  order = p .order;
+  stack = p .stack;
+  registers = p .registers;
+  saved = p .saved;
+  responses = p .responses;
 }
-
-abbrev pub memory : Panel → State
-memory p =
-    packed (numbers p) (p .counters) (p .held) (p .known) (p .awaiting) (p .clocks) (p .operations) (p .contexts) (p .order) (p .stack)
-    (p .registers) (p .saved) (p .responses)
 
 -- all due steps with that result led to that state
 abbrev pub ran : DueSteps → State → DueOutcome
