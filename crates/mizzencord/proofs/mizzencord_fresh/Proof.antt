@@ -97,8 +97,31 @@ returning rest = seq (assign (place result-local []) (rvOpd (copy (place (done-l
 -- p with that own number
 abbrev withOwn : Panel → PanelNo → Panel
 withOwn p n =
-    whole (p .committed, (p .ordered, (p .executed, (p .stacked, (p .commits, (p .clock, (p .counters, (p .panels,
-    (n, parts p .1 .1 .1 .1 .1 .1 .1 .1 .1)))))))))
+    whole (
+      p .committed,
+      (
+        p .ordered,
+        (
+          p .executed,
+          (
+            p .stacked,
+            (
+              p .commits,
+              (
+                p .clock,
+                (
+                  p .counters,
+                  (
+                    p .panels,
+                    (n, parts p .1 .1 .1 .1 .1 .1 .1 .1 .1),
+                  ),
+                ),
+              ),
+            ),
+          ),
+        ),
+      ),
+    )
 
 module _ {M : Type 1} (𝓤 : URA M) (H : Heap 𝓤) (A : Atoms 𝓤) (W : Given 𝓤 H A) (b o : ℕ) (p : Panel) where
   counters-within : (c : Counters) → Within 𝓤 H A fullShare T.the-row Cs.the-row p (withCounters p c) (p .counters) c b o (o + counters-read .offset)
