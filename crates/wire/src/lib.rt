@@ -1,7 +1,7 @@
 // Bus messages, document 01's kinds 1 to 3: a reader of a lent run of bytes and a writer into a lent part.
 //
-// Here are the types. The calls are `reader::read` and `writer::write`; `heads::head_at` judges a message and reads no field, so that a
-// caller reads the fields it wants by `parts`, straight from the bytes. `held` makes messages and tells their kind and size, `layout` has
+// Here are the types. The calls are `reader::read` and `writer::write`; `heads::head_at` judges a message before its fields are read, so
+// that a caller reads those it wants by `parts`, straight from the bytes. `held` makes messages and tells their kind and size, `layout` has
 // the numbers and sizes of the kinds. The contracts cite `readAt`, `headOf`, `writeAnswer` and `afterWrite` of `specs/`; what a good head
 // gives is in `proofs/HeadLaws.antt`, that messages read back as written and write back as read in `proofs/RoundTrip.antt`.
 use request::Request;
