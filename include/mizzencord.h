@@ -1,4 +1,6 @@
-/* The panel of a bake board as a component: link libmizzencord.a, which `rt staticlib mizzencord` writes for x86-64.
+/* The panel of a bake board as a component: link libmizzencord.a, which `rt staticlib mizzencord` writes for x86-64. Only the two functions
+ * over whole shifts, mizzencord_print and mizzencord_run, are in libmizzencord_tools.a, which `rt staticlib mizzencord_tools` writes. Both
+ * may be linked into one program.
  *
  * A panel is memory that the caller owns: make it with mizzencord_fresh, then hand it to the calls. A call changes that memory and
  * nothing else, keeps no pointer, asks for no heap and ends. Two calls on one panel must not run at the same time; panels are
@@ -263,12 +265,14 @@ mizzencord_reading mizzencord_read(const uint8_t *bytes, size_t length, size_t a
 /* Writes a message at the front of `out`: exactly its bytes, at most MIZZENCORD_LONGEST_MESSAGE, or nothing where it is refused. */
 mizzencord_written mizzencord_write(mizzencord_message message, uint8_t *out, size_t length);
 
-/* ---- whole shifts; docs/CALLS.md has the bytes of a list of calls */
+/* ---- whole shifts, in libmizzencord_tools.a; docs/CALLS.md has the bytes of a list of calls */
 
-/* Puts the printout of the input at the front of `out`: its bytes, or 0 where under MIZZENCORD_MOST_PRINTED bytes are lent. */
+/* Puts the printout of the input at the front of `out`: its bytes, or 0 where under MIZZENCORD_MOST_PRINTED bytes are lent. In
+ * libmizzencord_tools.a. */
 size_t mizzencord_print(const uint8_t *input, size_t input_length, uint8_t *out, size_t out_length);
 
-/* Runs a list of calls on a panel made for it, MIZZENCORD_ANSWER bytes for each into `out`; without room for all none is run. */
+/* Runs a list of calls on a panel made for it, MIZZENCORD_ANSWER bytes for each into `out`; without room for all none is run. In
+ * libmizzencord_tools.a. */
 mizzencord_ran mizzencord_run(const uint8_t *calls, size_t calls_length, uint8_t *out, size_t out_length);
 
 #ifdef __cplusplus

@@ -1,8 +1,8 @@
 //! Calls and messages in words, for a person who follows a difference.
 
-use crate::random::Call;
-use crate::request::*;
-use crate::wire::Message;
+use crate::replica::call::Call;
+use crate::replica::request::*;
+use crate::replica::wire::Message;
 
 pub fn number_told(number: Number) -> String {
     format!("{}/{}", number.panel.0, number.event.0)

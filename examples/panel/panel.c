@@ -30,7 +30,7 @@ static const char *const marks[] = {"unawaited", "weak", "tentative", "stable"};
 
 /* Puts a message at the end of the bus. */
 static void spread(bool settles, mizzencord_request request) {
-    mizzencord_message message = {settles, request};
+    mizzencord_message message = {.request = request, .settles = settles};
     mizzencord_written written = mizzencord_write(message, bus + bus_length, sizeof bus - bus_length);
     if (written.refusal != MIZZENCORD_ACCEPTED) printf("the bus: %s\n", refusals[written.refusal]);
     bus_length += written.bytes;
@@ -40,15 +40,15 @@ static void print_reply(int panel, mizzencord_number number, uint32_t response, 
     printf("panel %d: %s reply to %d/%d: %" PRIu32 "\n", panel, marks[mark], number.panel, number.event, response);
 }
 
-static void make(int panel, mizzencord_operation operation, bool strong, uint32_t clock) {
-    mizzencord_invocation invocation = {{strong, operation}, clock};
+static void make(int panel, mizzencord_asked asked, uint32_t clock) {
+    mizzencord_invocation invocation = {asked, clock};
     mizzencord_answer answer = mizzencord_invoke(&stations[panel].board, invocation);
     if (answer.refusal != MIZZENCORD_ACCEPTED) {
         printf("panel %d cannot make it: %s\n", panel, refusals[answer.refusal]);
         return;
     }
     mizzencord_number number = answer.request.number;
-    printf("panel %d makes %d/%d, %s\n", panel, number.panel, number.event, strong ? "strong" : "weak");
+    printf("panel %d makes %d/%d, %s\n", panel, number.panel, number.event, asked.strong ? "strong" : "weak");
     spread(false, answer.request);
 }
 
@@ -69,7 +69,7 @@ static void listen(int panel) {
         mizzencord_receipt got = mizzencord_receive(&here->board, bus, bus_length, here->heard);
         if (got.taken == 0) return; /* the end, or bytes that are no message */
         here->heard += got.taken;
-        printf("panel %d receives %zu bytes about %d/%d: %s\n", panel, got.taken, about.panel, about.event,
+        printf("panel %d receives %" PRIu64 " bytes about %d/%d: %s\n", panel, got.taken, about.panel, about.event,
                refusals[got.answer.refusal]);
         if (got.answer.mark != MIZZENCORD_REPLY_TO_NOBODY) print_reply(panel, about, got.answer.response, got.answer.mark);
     }
@@ -111,21 +111,21 @@ int main(void) {
     for (int panel = 0; panel < PANELS; panel++) {
         if (mizzencord_fresh(&stations[panel].board, PANELS, (uint8_t)panel) != MIZZENCORD_ACCEPTED) return 2;
     }
-    make(0, (mizzencord_operation){MIZZENCORD_ADD, TRAYS, 0, 6}, false, 10);
-    make(1, (mizzencord_operation){MIZZENCORD_CLAIM, DECK, 0, 2}, true, 12);
-    make(0, (mizzencord_operation){MIZZENCORD_CLAIM, DECK, 0, 1}, true, 11);
+    make(0, (mizzencord_asked){.code = MIZZENCORD_ADD, .r = TRAYS, .amount = 6}, 10);
+    make(1, (mizzencord_asked){.code = MIZZENCORD_CLAIM, .r = DECK, .amount = 2, .strong = true}, 12);
+    make(0, (mizzencord_asked){.code = MIZZENCORD_CLAIM, .r = DECK, .amount = 1, .strong = true}, 11);
     both(work);
     both(listen);
     both(work);
     settle(1, (mizzencord_number){1, 1});
-    make(1, (mizzencord_operation){MIZZENCORD_MOVE, TRAYS, OUT, 2}, false, 13);
+    make(1, (mizzencord_asked){.code = MIZZENCORD_MOVE, .r = TRAYS, .q = OUT, .amount = 2}, 13);
     both(listen);
     both(work);
     settle(0, (mizzencord_number){0, 2});
     both(listen);
     both(work);
     settle(1, (mizzencord_number){1, 1});
-    make(0, (mizzencord_operation){MIZZENCORD_CLAIM, DECK, 0, 0}, true, 14);
+    make(0, (mizzencord_asked){.code = MIZZENCORD_CLAIM, .r = DECK, .strong = true}, 14);
     both(print_order);
     return print_registers() ? 0 : 1;
 }

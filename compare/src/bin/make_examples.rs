@@ -4,12 +4,13 @@
 use std::path::Path;
 use std::{env, fs, io};
 
-use mizzencord_compare::printout::printout;
-use mizzencord_compare::random::{append, awkward_input, busy_input, together_input};
-use mizzencord_compare::request::*;
-use mizzencord_compare::steady::{late_input, steady_input};
-use mizzencord_compare::two_panels;
-use mizzencord_compare::wire::Message;
+use mizzencord_compare::drawing::inputs::{awkward_input, busy_input, together_input};
+use mizzencord_compare::examples::steady::{late_input, steady_input};
+use mizzencord_compare::examples::two_panels;
+use mizzencord_compare::replica::printout::printout;
+use mizzencord_compare::replica::request::*;
+use mizzencord_compare::replica::wire::append;
+use mizzencord_compare::replica::wire::Message;
 
 fn main() -> io::Result<()> {
     let folder = env::args().nth(1).unwrap_or_else(|| "../examples".into());

@@ -6,8 +6,8 @@
 use std::collections::BTreeMap;
 use std::{env, process};
 
-use mizzencord_compare::board::Handwritten;
-use mizzencord_compare::random::Random;
+use mizzencord_compare::drawing::random::Random;
+use mizzencord_compare::interface::board::Handwritten;
 use mizzencord_compare::shop_test::{Difference, ShopTest};
 
 const SEED: u64 = 1;

@@ -2,7 +2,7 @@
 
 use std::io::{self, Read, Write};
 
-use mizzencord_compare::printout::{printout, MOST_BYTES};
+use mizzencord_compare::replica::printout::{printout, MOST_BYTES};
 
 fn main() -> io::Result<()> {
     let mut input = Vec::new();

@@ -1,7 +1,7 @@
 //! Short ways to write requests down in the tests, and to look at those held.
 
-use mizzencord_compare::panel::Panel;
-use mizzencord_compare::request::*;
+use mizzencord_compare::replica::panel::Panel;
+use mizzencord_compare::replica::request::*;
 
 pub fn read(r: u8) -> Operation {
     Operation::new(1, r, 0, 0)

@@ -1,12 +1,16 @@
 //! Decks taken together: document 02's request (g).
 
-use mizzencord_compare::calls;
-use mizzencord_compare::claims::ClaimOutcomes;
+use mizzencord_compare::counting::claims::ClaimOutcomes;
 use mizzencord_compare::counting::Counting;
-use mizzencord_compare::panel::{Answer, Panel};
-use mizzencord_compare::random::{long_calls, printout_input, Call, Random, Shift};
-use mizzencord_compare::request::*;
-use mizzencord_compare::wire::{parse, Message, Parsed};
+use mizzencord_compare::drawing::inputs::printout_input;
+use mizzencord_compare::drawing::long_shift::long_calls;
+use mizzencord_compare::drawing::random::Random;
+use mizzencord_compare::drawing::shift::Shift;
+use mizzencord_compare::replica::call::Call;
+use mizzencord_compare::replica::calls;
+use mizzencord_compare::replica::panel::{Answer, Panel};
+use mizzencord_compare::replica::request::*;
+use mizzencord_compare::replica::wire::{parse, Message, Parsed};
 
 use crate::build::*;
 use crate::examples::stored;

@@ -1,16 +1,18 @@
 //! The comparison itself: a planted fault is found and shrunk, and cases and
 //! calls come back from their bytes.
 
-use mizzencord_compare::board::{Board, Handwritten};
-use mizzencord_compare::calls::{self, ANSWER_SIZE};
-use mizzencord_compare::cases;
-use mizzencord_compare::difference::{differ, Case, Function};
-use mizzencord_compare::fields;
-use mizzencord_compare::header::{self, Message, Ran, Reading, Written};
-use mizzencord_compare::panel::{MARK_STABLE, MARK_TENTATIVE};
-use mizzencord_compare::random::{self, Call};
-use mizzencord_compare::refusal::{BAD_CONTEXT, BAD_SHOP, CUT_SHORT, NO_ROOM};
-use mizzencord_compare::request::*;
+use mizzencord_compare::byte_test::cases;
+use mizzencord_compare::byte_test::difference::{differ, Case, Function};
+use mizzencord_compare::byte_test::fields;
+use mizzencord_compare::drawing::messages::message;
+use mizzencord_compare::drawing::random::Random;
+use mizzencord_compare::interface::board::{Board, Handwritten};
+use mizzencord_compare::interface::header::{self, Message, Ran, Reading, Written};
+use mizzencord_compare::replica::call::Call;
+use mizzencord_compare::replica::calls::{self, ANSWER_SIZE};
+use mizzencord_compare::replica::panel::{MARK_STABLE, MARK_TENTATIVE};
+use mizzencord_compare::replica::refusal::{BAD_CONTEXT, BAD_SHOP, CUT_SHORT, NO_ROOM};
+use mizzencord_compare::replica::request::*;
 
 use crate::naive;
 
@@ -28,7 +30,7 @@ impl Board for Faulty {
 
     fn run(&self, calls: &[u8], out: &mut [u8]) -> Ran {
         let ran = Handwritten.run(calls, out);
-        for answer in out.chunks_exact_mut(ANSWER_SIZE).take(ran.ran) {
+        for answer in out.chunks_exact_mut(ANSWER_SIZE).take(ran.ran as usize) {
             if answer[1] == MARK_STABLE {
                 answer[1] = MARK_TENTATIVE;
             }
@@ -209,7 +211,7 @@ fn messages_are_read_and_written_as_structs() {
 #[test]
 fn the_fields_of_a_case_come_back() {
     for seed in 0..200 {
-        let message = Message::from(&random::message(&mut random::Random::new(seed)));
+        let message = Message::from(&message(&mut Random::new(seed)));
         assert_eq!(fields::message(&fields::of_message(&message)), message);
     }
     assert_eq!(fields::message(&[]), Message::default());

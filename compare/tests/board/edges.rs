@@ -1,9 +1,9 @@
 //! Document 01's cases at the edges, in its order, as document 02's requests
 //! (b) and (i) amend them.
 
-use mizzencord_compare::panel::Panel;
-use mizzencord_compare::request::*;
-use mizzencord_compare::wire::{parse, Parsed};
+use mizzencord_compare::replica::panel::Panel;
+use mizzencord_compare::replica::request::*;
+use mizzencord_compare::replica::wire::{parse, Parsed};
 
 use crate::build::*;
 

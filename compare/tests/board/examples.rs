@@ -3,10 +3,10 @@
 use std::fs;
 use std::path::Path;
 
-use mizzencord_compare::calls;
-use mizzencord_compare::printout::printout;
-use mizzencord_compare::two_panels;
-use mizzencord_compare::wire::{parse, Parsed};
+use mizzencord_compare::examples::two_panels;
+use mizzencord_compare::replica::calls;
+use mizzencord_compare::replica::printout::printout;
+use mizzencord_compare::replica::wire::{parse, Parsed};
 
 use crate::{naive, worked};
 

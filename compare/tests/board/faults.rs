@@ -1,6 +1,6 @@
 //! The faults a panel could hide, each as a scenario that shows it.
 
-use mizzencord_compare::request::*;
+use mizzencord_compare::replica::request::*;
 
 use crate::build::*;
 

@@ -1,10 +1,10 @@
 //! Orders of several hundred requests that change: what is undone is what
 //! stands behind the common start.
 
-use mizzencord_compare::calls;
-use mizzencord_compare::panel::Panel;
-use mizzencord_compare::printout::printout;
-use mizzencord_compare::request::*;
+use mizzencord_compare::replica::calls;
+use mizzencord_compare::replica::panel::Panel;
+use mizzencord_compare::replica::printout::printout;
+use mizzencord_compare::replica::request::*;
 
 use crate::build::*;
 use crate::examples::{stored_case, CALLS, PRINTOUT};

@@ -1,12 +1,13 @@
 //! Random long shifts: their orders change at the front, in the middle and near
 //! the end while several hundred requests are executed.
 
-use mizzencord_compare::calls;
-use mizzencord_compare::cases;
-use mizzencord_compare::changes::LongChanges;
+use mizzencord_compare::byte_test::cases;
+use mizzencord_compare::counting::changes::LongChanges;
 use mizzencord_compare::counting::Counting;
-use mizzencord_compare::printout::printout;
-use mizzencord_compare::random::{long_calls, Call};
+use mizzencord_compare::drawing::long_shift::long_calls;
+use mizzencord_compare::replica::call::Call;
+use mizzencord_compare::replica::calls;
+use mizzencord_compare::replica::printout::printout;
 
 use crate::build::*;
 use crate::long_orders::{in_clock_order, panel_with};

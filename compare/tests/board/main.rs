@@ -12,6 +12,7 @@ mod moves;
 mod naive;
 mod own_clocks;
 mod panels;
+mod peer;
 mod random_bytes;
 mod random_calls;
 mod refusals;

@@ -1,11 +1,13 @@
 //! Moves of what there is: document 02's request (i).
 
-use mizzencord_compare::calls;
+use mizzencord_compare::counting::moves::MoveLimits;
 use mizzencord_compare::counting::Counting;
-use mizzencord_compare::moves::MoveLimits;
-use mizzencord_compare::panel::{Answer, Panel};
-use mizzencord_compare::random::{Call, Random, Shift};
-use mizzencord_compare::request::*;
+use mizzencord_compare::drawing::random::Random;
+use mizzencord_compare::drawing::shift::Shift;
+use mizzencord_compare::replica::call::Call;
+use mizzencord_compare::replica::calls;
+use mizzencord_compare::replica::panel::{Answer, Panel};
+use mizzencord_compare::replica::request::*;
 
 use crate::build::*;
 use crate::naive;

@@ -3,11 +3,11 @@
 //! value comes from a replay on a zero board. There is no undo log, no saved
 //! register and no count of own requests.
 
-use mizzencord_compare::calls;
-use mizzencord_compare::panel::Answer;
-use mizzencord_compare::random::Call;
-use mizzencord_compare::request::{Clock, Number, NumberSet, Operation, Request};
-use mizzencord_compare::wire::{parse, Message, Parsed};
+use mizzencord_compare::replica::call::Call;
+use mizzencord_compare::replica::calls;
+use mizzencord_compare::replica::panel::Answer;
+use mizzencord_compare::replica::request::{Clock, Number, NumberSet, Operation, Request};
+use mizzencord_compare::replica::wire::{parse, Message, Parsed};
 
 use crate::build::pair;
 

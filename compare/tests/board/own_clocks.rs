@@ -1,15 +1,20 @@
 //! Own clocks that are put back: document 02's request (b).
 
-use mizzencord_compare::board::Handwritten;
-use mizzencord_compare::calls::{self, ANSWER_SIZE};
-use mizzencord_compare::cases;
-use mizzencord_compare::difference::Outcome;
-use mizzencord_compare::panel::{Answer, Panel};
-use mizzencord_compare::printout::printout;
-use mizzencord_compare::random::{message, printout_input, Call, Clocks, Random, Shift};
-use mizzencord_compare::refusal::CLOCK_BACK;
-use mizzencord_compare::request::*;
-use mizzencord_compare::wire::{parse, write, Parsed};
+use mizzencord_compare::byte_test::cases;
+use mizzencord_compare::byte_test::difference::Outcome;
+use mizzencord_compare::drawing::habits::Clocks;
+use mizzencord_compare::drawing::inputs::printout_input;
+use mizzencord_compare::drawing::messages::message;
+use mizzencord_compare::drawing::random::Random;
+use mizzencord_compare::drawing::shift::Shift;
+use mizzencord_compare::interface::board::Handwritten;
+use mizzencord_compare::replica::call::Call;
+use mizzencord_compare::replica::calls::{self, ANSWER_SIZE};
+use mizzencord_compare::replica::panel::{Answer, Panel};
+use mizzencord_compare::replica::printout::printout;
+use mizzencord_compare::replica::refusal::CLOCK_BACK;
+use mizzencord_compare::replica::request::*;
+use mizzencord_compare::replica::wire::{parse, write, Parsed};
 
 use crate::build::*;
 

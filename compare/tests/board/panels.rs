@@ -1,16 +1,16 @@
 //! The comparison panel by panel: planted faults are found and shrunk to the
 //! calls that show them, and this crate's panel does not differ from itself.
 
-use mizzencord_compare::component::{Component, OwnPanel};
-use mizzencord_compare::header::*;
-use mizzencord_compare::memory::{Start, Watched};
-use mizzencord_compare::panel_case::PanelCase;
-use mizzencord_compare::panel_draw;
-use mizzencord_compare::panel_pair::Step;
-use mizzencord_compare::panel_tally::PanelTally;
+use mizzencord_compare::interface::component::{Component, OwnPanel};
+use mizzencord_compare::interface::header::*;
+use mizzencord_compare::interface::memory::{Start, Watched};
 use mizzencord_compare::panel_test;
-use mizzencord_compare::random::Call;
-use mizzencord_compare::refusal::*;
+use mizzencord_compare::panel_test::case::PanelCase;
+use mizzencord_compare::panel_test::draw;
+use mizzencord_compare::panel_test::pair::Step;
+use mizzencord_compare::panel_test::tally::PanelTally;
+use mizzencord_compare::replica::call::Call;
+use mizzencord_compare::replica::refusal::*;
 
 use crate::build::{claim, set, strong, weak};
 
@@ -55,7 +55,7 @@ impl<const FAULT: u8> Component for Faulty<FAULT> {
         let mut receipt = self.panel.receive(bytes, at);
         self.noted(receipt.answer);
         if FAULT == TAKEN && receipt.answer.refusal == SPARE_SET {
-            receipt.taken = bytes[at] as usize;
+            receipt.taken = bytes[at] as u64;
         }
         receipt
     }
@@ -126,7 +126,7 @@ impl<const FAULT: u8> Watched for Faulty<FAULT> {
 
 /// The least case that shows a fault, and its words.
 fn least<const FAULT: u8>() -> (PanelCase, String) {
-    let mut cases = (0..2000).map(|seed| panel_draw::shift(seed, 60));
+    let mut cases = (0..2000).map(|seed| draw::shift(seed, 60));
     let found = cases.find(|case| case.run::<Faulty<FAULT>>(&mut PanelTally::default()).is_some());
     let small = found.expect("a shift that shows it").shrunk::<Faulty<FAULT>>();
     let told = small.told::<Faulty<FAULT>>();
@@ -173,16 +173,14 @@ fn a_panel_is_no_different_from_itself() {
 }
 
 /// Every answer of a small shift, worked out by hand from document 01.
-#[test]
-fn the_calls_answer_as_the_header_says() {
-    let mut panel = OwnPanel::new();
+pub fn answers_as_the_header_says(panel: &mut impl Component) {
     assert_eq!((panel.fresh(9, 0), panel.fresh(3, 3), panel.fresh(2, 1)), (1, 1, 0));
     let asked = Asked::new(claim(0, 7), true);
     let made = panel.invoke(Invocation { asked, clock: 5 }).request;
     assert_eq!((made.number, made.clock, made.asked), (Number { panel: 1, event: 1 }, 5, asked));
     let due = panel.run_due();
     assert_eq!((due.undos, due.executions, due.count), (0, 1, 1));
-    let reply = Reply { number: made.number, response: 7, mark: 2 };
+    let reply = Reply { response: 7, number: made.number, mark: 2, refusal: ACCEPTED };
     assert_eq!((due.replies[0], due.replies[1]), (reply, Reply::default()));
     assert_eq!(panel.deliver((&weak(0, 1, 1, set(0, 8))).into()), Answer::default());
     assert_eq!((panel.owed(), panel.requests(), panel.committed()), (3, 2, 0));
@@ -207,4 +205,9 @@ fn the_calls_answer_as_the_header_says() {
     let missing = Number { panel: 0, event: 9 };
     let answer = panel.commit(waits.number.into());
     assert_eq!(answer, Answer { refusal: WAITS, number: missing, ..Answer::default() });
+}
+
+#[test]
+fn the_calls_answer_as_the_header_says() {
+    answers_as_the_header_says(&mut OwnPanel::new());
 }

@@ -1,9 +1,11 @@
 //! Bytes written are read back, bytes read are written back, and printouts
 //! equal those of the naive panel.
 
-use mizzencord_compare::printout::printout;
-use mizzencord_compare::random::{bus_run, message, printout_input, Random};
-use mizzencord_compare::wire::{parse, write, Parsed};
+use mizzencord_compare::drawing::inputs::printout_input;
+use mizzencord_compare::drawing::messages::{bus_run, message};
+use mizzencord_compare::drawing::random::Random;
+use mizzencord_compare::replica::printout::printout;
+use mizzencord_compare::replica::wire::{parse, write, Parsed};
 
 use crate::naive;
 

@@ -1,8 +1,9 @@
 //! Random lists of calls, on the panel and on the naive model side by side.
 
-use mizzencord_compare::panel::{Answer, Panel};
-use mizzencord_compare::random::{Call, Shift};
-use mizzencord_compare::request::*;
+use mizzencord_compare::drawing::shift::Shift;
+use mizzencord_compare::replica::call::Call;
+use mizzencord_compare::replica::panel::{Answer, Panel};
+use mizzencord_compare::replica::request::*;
 
 use crate::build::pair;
 use crate::naive::{numbers_of, replay, Naive};

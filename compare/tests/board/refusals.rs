@@ -1,7 +1,7 @@
 //! The order of the refusals: each input meets several, the first one counts.
 
-use mizzencord_compare::panel::{Answer, Panel};
-use mizzencord_compare::request::*;
+use mizzencord_compare::replica::panel::{Answer, Panel};
+use mizzencord_compare::replica::request::*;
 
 use crate::build::*;
 

@@ -1,7 +1,8 @@
 //! Whole shops whose panels hear the same things at different times and whose
 //! clocks are put back at times.
 
-use mizzencord_compare::random::{Random, Shop};
+use mizzencord_compare::drawing::random::Random;
+use mizzencord_compare::drawing::shop::Shop;
 
 use crate::build::*;
 

@@ -1,20 +1,21 @@
 //! The test of panels side by side finds a difference where there is one, and
 //! shrinks it.
 
-use mizzencord_compare::account::Account;
-use mizzencord_compare::board::{Board, Handwritten, MOST_PRINTED};
-use mizzencord_compare::calls::{self, ANSWER_SIZE};
-use mizzencord_compare::header::{Message, Ran, Reading, Written};
-use mizzencord_compare::histories::Shop;
-use mizzencord_compare::panel::{Answer, MARK_STABLE};
-use mizzencord_compare::random::Call;
-use mizzencord_compare::refusal::{ACCEPTED, NOTHING_TO_DO};
-use mizzencord_compare::request::*;
-use mizzencord_compare::shop_prints::{self, PrintFinding};
-use mizzencord_compare::shop_shrink::{found, show, shrunk, with_fewer_calls};
+use mizzencord_compare::interface::board::{Board, Handwritten, MOST_PRINTED};
+use mizzencord_compare::interface::header::{Message, Ran, Reading, Written};
+use mizzencord_compare::replica::call::Call;
+use mizzencord_compare::replica::calls::{self, ANSWER_SIZE};
+use mizzencord_compare::replica::panel::{Answer, MARK_STABLE};
+use mizzencord_compare::replica::refusal::{ACCEPTED, NOTHING_TO_DO};
+use mizzencord_compare::replica::request::*;
+use mizzencord_compare::replica::{printout, wire};
+use mizzencord_compare::shop_test::account::Account;
+use mizzencord_compare::shop_test::histories::Shop;
+use mizzencord_compare::shop_test::prints::{self, PrintFinding};
+use mizzencord_compare::shop_test::shrink::{found, show, shrunk, with_fewer_calls};
+use mizzencord_compare::shop_test::side_by_side::{findings, Check, Finding, Tally};
 use mizzencord_compare::shop_test::ShopTest;
-use mizzencord_compare::side_by_side::{findings, Check, Finding, Tally};
-use mizzencord_compare::{printout, shop_bus, shop_own, wire};
+use mizzencord_compare::shop_test::{bus, own};
 
 use crate::build::*;
 
@@ -35,9 +36,8 @@ impl Board for Faulty {
             heard.for_each(|call| call[CLOCK_IN_CALL] &= 0xfe);
         }
         let ran = Handwritten.run(&changed, out);
-        for answer in
-            out.chunks_exact_mut(ANSWER_SIZE).take(ran.ran).filter(|answer| answer[1] == MARK_STABLE)
-        {
+        let answers = out.chunks_exact_mut(ANSWER_SIZE).take(ran.ran as usize);
+        for answer in answers.filter(|answer| answer[1] == MARK_STABLE) {
             answer[4] = answer[4].wrapping_add((list[1] == 0) as u8);
         }
         ran
@@ -70,7 +70,7 @@ impl Board for Faulty {
 /// then found.
 fn first_found(check: Check) -> (Shop, Finding) {
     let with_check = |shop: &Shop| found(&Faulty, shop).into_iter().find(|finding| finding.check == check);
-    let mut shops = (0..2000).map(|seed| shop_bus::draw(seed).shop);
+    let mut shops = (0..2000).map(|seed| bus::draw(seed).shop);
     let (shop, finding) = shops.find_map(|shop| with_check(&shop).map(|finding| (shop, finding))).unwrap();
     let small = shrunk(&Faulty, &shop, &finding);
     let finding = with_check(&small).expect("what is shrunk is still found");
@@ -119,7 +119,7 @@ fn a_wrong_stable_reply_is_found_and_shrunk() {
 fn printouts_that_differ_are_found_and_shrunk() {
     let mut out = vec![0; MOST_PRINTED];
     let pair = |found: &Option<PrintFinding>| matches!(found, Some(PrintFinding::Pair(_)));
-    let all = (0..2000).filter_map(|seed| shop_prints::draw(&shop_bus::draw(seed), seed));
+    let all = (0..2000).filter_map(|seed| prints::draw(&bus::draw(seed), seed));
     let mut wrong = all.filter(|prints| pair(&prints.found(&prints.texts(&Faulty, &mut out)).0));
     let prints = wrong.next().expect("a pair with an odd panel");
     drop(wrong);
@@ -253,7 +253,7 @@ struct Refusing;
 impl Board for Refusing {
     fn run(&self, list: &[u8], out: &mut [u8]) -> Ran {
         out.iter_mut().step_by(ANSWER_SIZE).for_each(|refusal| *refusal = NOTHING_TO_DO);
-        Ran { refusal: ACCEPTED, ran: calls::count(list) }
+        Ran { refusal: ACCEPTED, ran: calls::count(list) as u64 }
     }
 
     fn print(&self, input: &[u8], out: &mut [u8]) -> usize {
@@ -271,10 +271,10 @@ impl Board for Refusing {
 
 #[test]
 fn what_the_own_panel_shows_is_compared_and_shrunk() {
-    let shop = shop_bus::draw(1).shop.only(&[0]);
-    assert_eq!(shop_own::found_of(&Handwritten, &shop), None);
+    let shop = bus::draw(1).shop.only(&[0]);
+    assert_eq!(own::found_of(&Handwritten, &shop), None);
     let told = "the order shown is not the one that the definition gives";
-    assert_eq!(shop_own::found_of(&Refusing, &shop).as_deref(), Some(told));
-    let small = with_fewer_calls(&shop, |shop| shop_own::found_of(&Refusing, shop).is_some());
+    assert_eq!(own::found_of(&Refusing, &shop).as_deref(), Some(told));
+    let small = with_fewer_calls(&shop, |shop| own::found_of(&Refusing, shop).is_some());
     assert!(shop.calls() > 1 && small.calls() == 1 && small.read.is_empty(), "{small:?}");
 }

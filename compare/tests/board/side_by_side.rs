@@ -1,14 +1,14 @@
 //! Two panels side by side: worked pairs whose orders and registers are written
 //! out by hand from document 01 and request (j) of document 02.
 
-use mizzencord_compare::board::Handwritten;
-use mizzencord_compare::histories::{History, Shop};
-use mizzencord_compare::panel::Panel;
-use mizzencord_compare::random::Call;
-use mizzencord_compare::replay::replay;
-use mizzencord_compare::request::*;
-use mizzencord_compare::side_by_side::{findings, Tally};
-use mizzencord_compare::standing::standing_order;
+use mizzencord_compare::interface::board::Handwritten;
+use mizzencord_compare::replica::call::Call;
+use mizzencord_compare::replica::panel::Panel;
+use mizzencord_compare::replica::request::*;
+use mizzencord_compare::shop_test::histories::{History, Shop};
+use mizzencord_compare::shop_test::replay::replay;
+use mizzencord_compare::shop_test::side_by_side::{findings, Tally};
+use mizzencord_compare::shop_test::standing::standing_order;
 
 use crate::build::*;
 
@@ -19,7 +19,7 @@ fn settle(panel: u8, event: u8) -> Call {
 /// Gives a panel calls, with the refusal that each must meet.
 fn give(panel: &mut Panel, calls: &[(Call, u8)]) {
     for (call, refusal) in calls {
-        let answer = mizzencord_compare::calls::carry(panel, call);
+        let answer = mizzencord_compare::replica::calls::carry(panel, call);
         assert_eq!(answer.refusal, *refusal, "{call:?}");
     }
 }

@@ -1,7 +1,7 @@
 //! Replies, marks and the ways a settlement changes the order.
 
-use mizzencord_compare::panel::Answer;
-use mizzencord_compare::request::*;
+use mizzencord_compare::replica::panel::Answer;
+use mizzencord_compare::replica::request::*;
 
 use crate::build::*;
 

@@ -1,8 +1,8 @@
 //! The stored cases of claims of neighbouring registers, worked out by hand or
 //! by what their names say.
 
-use mizzencord_compare::calls;
-use mizzencord_compare::printout::printout;
+use mizzencord_compare::replica::calls;
+use mizzencord_compare::replica::printout::printout;
 
 use crate::examples::{stored_cases, CALLS, PRINTOUT};
 use crate::stored_lines::{answer, answered, lines, nothing, printed, read_and_reply, registers};

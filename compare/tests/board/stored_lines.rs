@@ -1,7 +1,7 @@
 //! The lines that stored cases print, and short ways to write such lines down.
 
-use mizzencord_compare::calls;
-use mizzencord_compare::printout::printout;
+use mizzencord_compare::replica::calls;
+use mizzencord_compare::replica::printout::printout;
 
 use crate::examples::{stored_case, CALLS, PRINTOUT};
 

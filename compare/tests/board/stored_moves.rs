@@ -1,6 +1,6 @@
 //! The stored cases of moves, worked out by hand.
 
-use mizzencord_compare::printout::printout;
+use mizzencord_compare::replica::printout::printout;
 
 use crate::examples::{stored_cases, PRINTOUT};
 use crate::moves::MOVES;

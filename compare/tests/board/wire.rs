@@ -1,7 +1,7 @@
 //! The reader's and the writer's refusals in their order.
 
-use mizzencord_compare::request::*;
-use mizzencord_compare::wire::{parse, write, Message, Parsed};
+use mizzencord_compare::replica::request::*;
+use mizzencord_compare::replica::wire::{parse, write, Message, Parsed};
 
 use crate::build::*;
 

@@ -1,6 +1,6 @@
 //! Document 01's worked input, byte by byte, and its whole output.
 
-use mizzencord_compare::printout::printout;
+use mizzencord_compare::replica::printout::printout;
 
 use crate::build::*;
 

@@ -9,11 +9,11 @@ use Rattle.creek.specs.declared.Answer.{Answer}
 use Rattle.creek.specs.Replies.{noMark, reply}
 use Rattle.creek.specs.internal.Sound.{mostRequests}
 use Rattle.replica.specs.declared.Core.{Core}
-use Rattle.steps.specs.declared.StepResult.{StepResult}
-use Rattle.due.specs.declared.DueResult.{DueResult}
-use Rattle.steps.specs.Steps.{undoParts, executeParts, UndoKept, ExecuteKept}
+use Rattle.steps.specs.declared.with_core.StepResult.{StepResult}
+use Rattle.due.specs.declared.with_core.DueResult.{DueResult}
+use Rattle.steps.specs.WithCore.{undoParts, executeParts, CoreUndoKept, CoreExecuteKept}
 use Rattle.due.specs.Due.{RunDue}
-use Rattle.due.specs.internal.Parts.{ranParts, DueKept}
+use Rattle.due.specs.internal.WithCore.{ranParts, CoreDueKept}
 use Rattle.replica.proofs.BoundLaws.{undos-fit, executions-fit}
 use Rattle.counting.specs.Counting.{UndoAsks, UndoCounted, ExecuteAsks, ExecuteCounted, DueCounted}
 use Rattle.encoding.proofs.DueLaws.{steps-few, done-all-due}
@@ -21,7 +21,7 @@ use Rattle.encoding.proofs.DueLaws.{steps-few, done-all-due}
 -- ---- undo
 
 module _ {core : Core} {counters : Counters} {operations stack registers saved registers′ : List ℕ} {r : StepResult}
-    (done : UndoKept core operations stack registers saved registers′ r)
+    (done : CoreUndoKept core operations stack registers saved registers′ r)
   where
     pub undo-fits : UndoAsks core counters operations stack registers saved → counters .undos + r .steps ≤ mostSteps
     undo-fits a =
@@ -38,7 +38,7 @@ module _ {core : Core} {counters : Counters} {operations stack registers saved r
 
 module _ {core : Core} {counters : Counters} {awaiting operations order stack registers saved responses : List ℕ}
     {awaiting′ stack′ registers′ saved′ responses′ : List ℕ} {r : StepResult}
-    (done : ExecuteKept core awaiting operations order stack registers saved responses awaiting′ stack′ registers′ saved′ responses′ r)
+    (done : CoreExecuteKept core awaiting operations order stack registers saved responses awaiting′ stack′ registers′ saved′ responses′ r)
   where
     pub execution-fits : ExecuteAsks core counters awaiting operations order stack registers saved responses
         → counters .executions + r .steps ≤ mostSteps
@@ -58,7 +58,7 @@ module _ {core : Core} {counters : Counters} {awaiting operations order stack re
 
 module _ {core : Core} {counters : Counters} {awaiting operations order stack registers saved responses : List ℕ}
     {awaiting′ stack′ registers′ saved′ responses′ : List ℕ} {r : DueResult}
-    (done : DueKept core awaiting operations order stack registers saved responses awaiting′ stack′ registers′ saved′ responses′ r)
+    (done : CoreDueKept core awaiting operations order stack registers saved responses awaiting′ stack′ registers′ saved′ responses′ r)
   where
     module _ (a : ExecuteAsks core counters awaiting operations order stack registers saved responses) where
       ran-on : RunDue (executeParts (a .panel) counters core awaiting operations order stack registers saved responses)

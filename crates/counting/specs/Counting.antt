@@ -7,7 +7,7 @@ use Rattle.replica.specs.declared.Core.{Core}
 use Rattle.replica.specs.State.{State, Called}
 use Rattle.replica.specs.Promises.{Kept}
 use Rattle.replica.specs.internal.Model.{Inv}
-use Rattle.steps.specs.Steps.{undoParts, executeParts}
+use Rattle.steps.specs.WithCore.{undoParts, executeParts}
 use Rattle.encoding.specs.Encoding.{allDue}
 use Rattle.encoding.specs.internal.Running.{Done}
 use Rattle.counting.specs.declared.EntryResult.{EntryResult}

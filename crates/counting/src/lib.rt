@@ -25,7 +25,7 @@ pub fn undo_counted<'a>(
     ensures { λ r. ⌜ UndoCounted core counters (now (operations .entry)) (now (stack .entry)) (now (registers .entry)) (now (saved .entry))
         (now (registers .exit)) r ⌝ }
 {
-    let step = steps::undo(core, operations, stack, registers, saved);
+    let step = steps::undo_with_core(core, operations, stack, registers, saved);
     let counted = counters::undos_counted(counters, step.steps);
     let after = step.core;
     let answer = step.answer;
@@ -54,7 +54,7 @@ pub fn execute_counted<'a>(
         (now (registers .entry)) (now (saved .entry)) (now (responses .entry))
         (now (awaiting .exit)) (now (stack .exit)) (now (registers .exit)) (now (saved .exit)) (now (responses .exit)) r ⌝ }
 {
-    let step = steps::execute(
+    let step = steps::execute_with_core(
         core,
         awaiting,
         operations,
@@ -92,7 +92,7 @@ pub fn all_due<'a>(
         (now (registers .entry)) (now (saved .entry)) (now (responses .entry))
         (now (awaiting .exit)) (now (stack .exit)) (now (registers .exit)) (now (saved .exit)) (now (responses .exit)) r ⌝ }
 {
-    let ran = due::run_due(
+    let ran = due::run_due_with_core(
         core,
         awaiting,
         operations,

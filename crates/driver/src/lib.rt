@@ -57,7 +57,7 @@ pub fn run(
 {
     let panels = encoding::byte_at(s, calls::PANELS_AT);
     let own = encoding::byte_at(s, calls::OWN_AT);
-    let opened = replica::fresh(
+    let opened = replica::fresh_with_core(
         held,
         known,
         awaiting,

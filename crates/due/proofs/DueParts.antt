@@ -7,15 +7,16 @@ use lib.ListN.{set, replicate}
 use Rattle.counters.specs.declared.Counters.{Counters}
 use Rattle.counters.specs.Counted.{undosCounted, executionsCounted}
 use Rattle.creek.specs.Replies.{replyIn, noMark, reply}
-use Rattle.replica.specs.declared.Core.{Core}
 use Rattle.creek.specs.declared.Reply.{Reply}
-use Rattle.due.specs.declared.DueResult.{DueResult}
 use Rattle.replica.specs.State.{State}
-use Rattle.replica.specs.internal.Cores.{withBoard}
+use Rattle.replica.specs.internal.Cores.{coreIn}
+use Rattle.replica.specs.internal.Parts.{withCounters}
 use Rattle.replica.specs.internal.Model.{Inv}
-use Rattle.steps.specs.Steps.{undoParts, UndoAsks, TopAsks, TakenOff, executeParts, ExecuteAsks}
+use Rattle.steps.specs.Lent.{UndoLent, undoWith, undoChanged, undoing, ExecuteLent, executeChanged, executing, withUndos, withExecutions}
+use Rattle.steps.specs.Steps.{UndoAsks, TopAsks, TakenOff, ExecuteAsks}
+use Rattle.due.specs.declared.DueSteps.{DueSteps}
 use Rattle.due.specs.Due.{DueOutcome, noReply, mostReplies, RunDue}
-use Rattle.due.specs.internal.Parts.{ranParts, RolledBack, ExecutedAll, AllUndone, AllExecuted, DueKept}
+use Rattle.due.specs.internal.Parts.{ranTo, RolledBack, ExecutedAll, AllUndone, AllExecuted, DueKept}
 use Rattle.replica.proofs.ModelLaws.{top-slot, next-slot}
 use Rattle.steps.proofs.ExecuteLaws.{NextReply}
 use Rattle.steps.proofs.StepParts.{none-undone, none-executed, NextAsks, Next}
@@ -37,144 +38,131 @@ module _ (c : Counters) (from at : ℕ) where
 
 -- ---- the loop of undos
 
-module _ (core : Core) (operations stack registers saved : List ℕ) where
-  abbrev rolled-from : State → State
-  rolled-from p = undoParts p (p .counters) core operations stack registers saved
-
+module _ (l : UndoLent) where
   -- with so many left on the board
-  abbrev rolled-to : State → List ℕ → ℕ → State
-  rolled-to p registers′ stacked =
-      undoParts p (undosCounted (p .counters) (core .stacked - stacked)) (withBoard core (core .executed) stacked) operations stack registers′ saved
+  abbrev rolled-to : List ℕ → ℕ → State → State
+  rolled-to registers stacked p = undoing (undoChanged l stacked registers) (withUndos (l .stacked - stacked) p)
 
-  pub record RollingParts (registers′ : List ℕ) (stacked : ℕ) : Type 0 where
-    pub low : core .executed ≤ stacked
-    pub high : stacked ≤ core .stacked
-    pub rolling : (p : State) → Inv (rolled-from p) → Rolling (rolled-from p) (rolled-to p registers′ stacked)
+  pub record RollingParts (registers : List ℕ) (stacked : ℕ) : Type 0 where
+    pub low : l .executed ≤ stacked
+    pub high : stacked ≤ l .stacked
+    pub each : (p : State) → Inv (undoing l p) → Rolling (undoing l p) (rolled-to registers stacked p)
 
-  pub roll-start : UndoAsks core operations stack registers saved → RollingParts registers (core .stacked)
+  pub roll-start : UndoAsks l → RollingParts (l .registers) (l .stacked)
   roll-start asks = record {
     low = omega (arith, asks .invariant .counts);
     high = omega arith;
-    rolling = λ p inv.
-        subst (λ (k : Counters). Rolling (rolled-from p) (undoParts p k core operations stack registers saved))
-        (none-undone (p .counters) (core .stacked - core .stacked) (omega arith)) (rolling-start (rolled-from p) inv);
+    each = λ p inv.
+        subst (λ (k : Counters). Rolling (undoing l p) (undoing l (withCounters k p)))
+        (none-undone (p .counters) (l .stacked - l .stacked) (omega arith)) (rolling-start (undoing l p) inv);
   }
 
-  module _ (registers′ : List ℕ) (stacked : ℕ) (h : RollingParts registers′ stacked) where
-    pub roll-asks : UndoAsks core operations stack registers saved → core .executed < stacked → TopAsks stack (stacked - 1)
+  module _ (registers : List ℕ) (stacked : ℕ) (h : RollingParts registers stacked) where
+    pub roll-asks : UndoAsks l → l .executed < stacked → TopAsks (l .stack) (stacked - 1)
     roll-asks asks more =
-        let inv = h .rolling (asks .panel) (asks .invariant) .invariant in
-        record { place = omega (arith, inv .counts); slot = top-slot (rolled-to (asks .panel) registers′ stacked) inv more }
+        let inv = h .each (asks .panel) (asks .invariant) .invariant in
+        record { place = omega (arith, inv .counts); slot = top-slot (rolled-to registers stacked (asks .panel)) inv more }
 
-    pub roll-on : core .executed < stacked → {registers″ : List ℕ} {s : ℕ}
-        → TakenOff operations stack registers′ saved (stacked - 1) registers″ s → RollingParts registers″ (stacked - 1)
-    roll-on more {registers″} off =
+    pub roll-on : l .executed < stacked → {registers′ : List ℕ} {s : ℕ}
+        → TakenOff (l .operations) (l .stack) registers (l .saved) (stacked - 1) registers′ s → RollingParts registers′ (stacked - 1)
+    roll-on more {registers′} off =
         let again : stacked - 1 + 1 ≡ stacked = omega arith in
         record {
           low = omega arith;
           high = omega (arith, h .high);
-          rolling = λ p inv.
-              rolling-on (rolled-from p) (rolled-to p registers′ stacked) (h .rolling p inv) more registers″
-              (undosCounted (p .counters) (core .stacked - (stacked - 1))) (off .rolled-back)
-              (undone-more (p .counters) (core .stacked) (stacked - 1) (omega (arith, h .high))
-              ∙ ap (λ (n : ℕ). undosCounted (undosCounted (p .counters) (core .stacked - n)) 1) again);
+          each = λ p inv.
+              rolling-on (undoing l p) (rolled-to registers stacked p) (h .each p inv) more registers′
+              (undosCounted (p .counters) (l .stacked - (stacked - 1))) (off .rolled-back)
+              (undone-more (p .counters) (l .stacked) (stacked - 1) (omega (arith, h .high))
+              ∙ ap (λ (n : ℕ). undosCounted (undosCounted (p .counters) (l .stacked - n)) 1) again);
         }
 
-    pub roll-end : stacked ≤ core .executed → AllUndone core operations stack registers saved registers′
+    pub roll-end : stacked ≤ l .executed → AllUndone l (undoChanged l stacked registers)
     roll-end all =
-        let end : stacked ≡ core .executed = omega (arith, h .low) in
+        let end : stacked ≡ l .executed = omega (arith, h .low) in
         record {
           back = λ p inv.
-              subst (λ (n : ℕ). RolledBack (rolled-from p) (rolled-to p registers′ n)) end
-              (rolling-end (rolled-from p) (rolled-to p registers′ stacked) (h .rolling p inv) (omega arith));
+              subst (λ (n : ℕ). RolledBack (undoing l p) (undoing (undoChanged l stacked registers) (withUndos (l .stacked - n) p))) end
+              (rolling-end (undoing l p) (rolled-to registers stacked p) (h .each p inv) (omega arith));
         }
 
 -- ---- the loop of executions
 
-module _ (core : Core) (awaiting operations order stack registers saved responses : List ℕ) where
-  abbrev executed-from : State → State
-  executed-from p = executeParts p (p .counters) core awaiting operations order stack registers saved responses
+module _ (l : ExecuteLent) where
+  -- with so many executed
+  abbrev executed-to : (awaiting stack registers saved responses : List ℕ) → ℕ → State → State
+  executed-to awaiting stack registers saved responses at p =
+      executing (executeChanged l at at awaiting stack registers saved responses) (withExecutions (at - l .executed) p)
 
-  -- with so many on the board
-  abbrev executed-to : State → (awaiting′ stack′ registers′ saved′ responses′ : List ℕ) → ℕ → State
-  executed-to p awaiting′ stack′ registers′ saved′ responses′ at =
-      executeParts p (executionsCounted (p .counters) (at - core .executed)) (withBoard core at at) awaiting′ operations order stack′ registers′
-      saved′ responses′
+  pub record ExecutingParts (awaiting stack registers saved responses : List ℕ) (replies : List Reply) (count at : ℕ) : Type 0 where
+    pub low : l .executed ≤ at
+    pub high : at ≤ l .ordered
+    pub each : (p : State) → Inv (executing l p)
+        → Executing (executing l p) (executed-to awaiting stack registers saved responses at p) replies count
 
-  pub record ExecutingParts (awaiting′ stack′ registers′ saved′ responses′ : List ℕ) (replies : List Reply) (count at : ℕ) : Type 0 where
-    pub low : core .executed ≤ at
-    pub high : at ≤ core .ordered
-    pub executing : (p : State) → Inv (executed-from p)
-        → Executing (executed-from p) (executed-to p awaiting′ stack′ registers′ saved′ responses′ at) replies count
-
-  pub execute-start : ExecuteAsks core awaiting operations order stack registers saved responses → core .executed ≡ core .stacked
-      → (none : Reply) → none ≡ noReply
-      → ExecutingParts awaiting stack registers saved responses (replicate mostReplies none) 0 (core .executed)
+  pub execute-start : ExecuteAsks l → l .executed ≡ l .stacked → (none : Reply) → none ≡ noReply
+      → ExecutingParts (l .awaiting) (l .stack) (l .registers) (l .saved) (l .responses) (replicate mostReplies none) 0 (l .executed)
   execute-start asks idle none is = record {
     low = omega arith;
     high = omega (arith, asks .invariant .counts);
-    executing = λ p inv.
-        subst (λ (n : ℕ). Executing (executed-from p) (executeParts p (executionsCounted (p .counters) (core .executed - core .executed))
-        (withBoard core (core .executed) n) awaiting operations order stack registers saved responses) (replicate mostReplies none) 0) (sym idle)
-        (subst (λ (k : Counters). Executing (executed-from p) (executeParts p k core awaiting operations order stack registers saved responses)
-        (replicate mostReplies none) 0) (none-executed (p .counters) (core .executed - core .executed) (omega arith)) (executing-start (executed-from p) none inv idle is));
+    each = λ p inv.
+        subst (λ (n : ℕ). Executing (executing l p)
+        (executing (executeChanged l (l .executed) n (l .awaiting) (l .stack) (l .registers) (l .saved) (l .responses))
+        (withExecutions (l .executed - l .executed) p)) (replicate mostReplies none) 0) (sym idle)
+        (subst (λ (k : Counters). Executing (executing l p) (executing l (withCounters k p)) (replicate mostReplies none) 0)
+        (none-executed (p .counters) (l .executed - l .executed) (omega arith)) (executing-start (executing l p) none inv idle is));
   }
 
-  module _ {awaiting′ stack′ registers′ saved′ responses′ : List ℕ} {replies : List Reply} {count at : ℕ}
-      (h : ExecutingParts awaiting′ stack′ registers′ saved′ responses′ replies count at) where
+  module _ {awaiting stack registers saved responses : List ℕ} {replies : List Reply} {count at : ℕ}
+      (h : ExecutingParts awaiting stack registers saved responses replies count at) where
     abbrev here : State → State
-    here p = executed-to p awaiting′ stack′ registers′ saved′ responses′ at
+    here = executed-to awaiting stack registers saved responses at
 
-    pub execute-asks : ExecuteAsks core awaiting operations order stack registers saved responses → at < core .ordered → NextAsks order at
+    pub execute-asks : ExecuteAsks l → at < l .ordered → NextAsks (l .order) at
     execute-asks asks more =
-        let inv = h .executing (asks .panel) (asks .invariant) .invariant in
+        let inv = h .each (asks .panel) (asks .invariant) .invariant in
         record { place = omega (arith, inv .counts); slot = next-slot (here (asks .panel)) inv more }
 
-    pub execute-end : core .ordered ≤ at → (undos executions : ℕ) → executions ≡ core .ordered - core .executed
-        → AllExecuted core undos awaiting operations order stack registers saved responses awaiting′ stack′ registers′ saved′ responses′
-        (record {
-          core = withBoard core (core .ordered) (core .ordered);
-          due = record { undos = undos; executions = executions; count = count; replies = replies };
-        })
+    pub execute-end : l .ordered ≤ at → (undos executions : ℕ) → executions ≡ l .ordered - l .executed
+        → AllExecuted l undos (executeChanged l (l .ordered) (l .ordered) awaiting stack registers saved responses)
+        (record { undos = undos; executions = executions; count = count; replies = replies })
     execute-end all undos executions is =
-        let end : at ≡ core .ordered = omega (arith, h .high) in
+        let end : at ≡ l .ordered = omega (arith, h .high) in
+        let after = executeChanged l (l .ordered) (l .ordered) awaiting stack registers saved responses in
         record {
           all = λ p inv.
-              let ran : State → DueOutcome = λ q. record { undos = undos; executions = executions; count = count; replies = replies; state = q } in
-              subst (λ (k : ℕ). ExecutedAll (executed-from p) undos
-              (ran (executeParts p (executionsCounted (p .counters) k) (withBoard core (core .ordered) (core .ordered)) awaiting′ operations order
-              stack′ registers′ saved′ responses′))) (sym is)
-              (subst (λ (n : ℕ). ExecutedAll (executed-from p) undos (ran (executed-to p awaiting′ stack′ registers′ saved′ responses′ n))) end
-              (executing-end (executed-from p) (here p) replies count (h .executing p inv) (omega arith) undos executions is));
+              let ran : State → DueOutcome = ranTo (record { undos = undos; executions = executions; count = count; replies = replies }) in
+              subst (λ (k : ℕ). ExecutedAll (executing l p) undos (ran (executing after (withExecutions k p)))) (sym is)
+              (subst (λ (n : ℕ). ExecutedAll (executing l p) undos (ran (executed-to awaiting stack registers saved responses n p))) end
+              (executing-end (executing l p) (here p) replies count (h .each p inv) (omega arith) undos executions is));
         }
 
-    module _ (more : at < core .ordered) {awaiting″ stack″ registers″ saved″ responses″ : List ℕ} {r : Reply}
-        (next : Next (core .committed) awaiting′ operations order stack′ registers′ saved′ responses′ at
-        awaiting″ stack″ registers″ saved″ responses″ r) where
+    module _ (more : at < l .ordered) {awaiting′ stack′ registers′ saved′ responses′ : List ℕ} {r : Reply}
+        (next : Next (l .committed) awaiting (l .operations) (l .order) stack registers saved responses at
+        awaiting′ stack′ registers′ saved′ responses′ r) where
       about : (p : State) → NextReply (here p) (r .number) (r .mark)
       about p = record { number = next .put .number; mark = next .put .mark }
 
       -- one execution more is counted
       counted : (p : State)
-          → executionsCounted (p .counters) (at + 1 - core .executed) ≡ executionsCounted (executionsCounted (p .counters) (at - core .executed)) 1
-      counted p = executed-more (p .counters) (core .executed) at (h .low)
+          → executionsCounted (p .counters) (at + 1 - l .executed) ≡ executionsCounted (executionsCounted (p .counters) (at - l .executed)) 1
+      counted p = executed-more (p .counters) (l .executed) at (h .low)
 
-      pub execute-quiet : r .mark ≡ noMark → ExecutingParts awaiting″ stack″ registers″ saved″ responses″ replies count (at + 1)
+      pub execute-quiet : r .mark ≡ noMark → ExecutingParts awaiting′ stack′ registers′ saved′ responses′ replies count (at + 1)
       execute-quiet quiet = record {
         low = omega (arith, h .low);
         high = omega arith;
-        executing = λ p inv.
+        each = λ p inv.
             rw (next .put .on-board, next .put .kept, next .put .replied)
-            (executing-quiet (executed-from p) (here p) replies count (h .executing p inv) more registers″ (next .word) (r .response) (r .number)
-            (r .mark) (next .restores) (next .done) (about p) awaiting″ (executionsCounted (p .counters) (at + 1 - core .executed)) (next .put .waits)
-            (counted p) quiet);
+            (executing-quiet (executing l p) (here p) replies count (h .each p inv) more registers′ (next .word) (r .response) (r .number)
+            (r .mark) (next .restores) (next .done) (about p) awaiting′ (executionsCounted (p .counters) (at + 1 - l .executed))
+            (next .put .waits) (counted p) quiet);
       }
 
-      pub execute-room : ExecuteAsks core awaiting operations order stack registers saved responses → (r .mark ≡ noMark → ⊥)
-          → count < mostReplies
+      pub execute-room : ExecuteAsks l → (r .mark ≡ noMark → ⊥) → count < mostReplies
       execute-room asks due =
           let p = asks .panel in
-          executing-room (executed-from p) (here p) replies count (h .executing p (asks .invariant)) more registers″ (next .word) (r .response)
+          executing-room (executing l p) (here p) replies count (h .each p (asks .invariant)) more registers′ (next .word) (r .response)
           (r .number) (r .mark) (next .restores) (next .done) (about p) due
 
       -- what the reply is, field by field
@@ -182,36 +170,39 @@ module _ (core : Core) (awaiting operations order stack registers saved response
       said = λ i. record { response = r .response; number = r .number; mark = r .mark; refusal = next .put .refusal i }
 
       pub execute-replied : (r .mark ≡ noMark → ⊥)
-          → ExecutingParts awaiting″ stack″ registers″ saved″ responses″ (set replies count r) (count + 1) (at + 1)
+          → ExecutingParts awaiting′ stack′ registers′ saved′ responses′ (set replies count r) (count + 1) (at + 1)
       execute-replied due = record {
         low = omega (arith, h .low);
         high = omega arith;
-        executing = λ p inv.
+        each = λ p inv.
             rw (next .put .on-board, next .put .kept, next .put .replied)
-            (executing-replied (executed-from p) (here p) replies count (h .executing p inv) more registers″ (next .word) (r .response) (r .number)
-            (r .mark) (next .restores) (next .done) (about p) awaiting″ (executionsCounted (p .counters) (at + 1 - core .executed)) (next .put .waits)
-            (counted p) due r said);
+            (executing-replied (executing l p) (here p) replies count (h .each p inv) more registers′ (next .word) (r .response) (r .number)
+            (r .mark) (next .restores) (next .done) (about p) awaiting′ (executionsCounted (p .counters) (at + 1 - l .executed))
+            (next .put .waits) (counted p) due r said);
       }
 
 -- ---- both
 
-pub all-due : {core : Core} {awaiting operations order stack registers saved responses between : List ℕ}
-    {awaiting′ stack′ registers′ saved′ responses′ : List ℕ} {undos : ℕ} {r : DueResult} → undos ≡ core .stacked - core .executed
-    → AllUndone core operations stack registers saved between
-    → AllExecuted (withBoard core (core .executed) (core .executed)) undos awaiting operations order stack between saved responses
-    awaiting′ stack′ registers′ saved′ responses′ r
-    → DueKept core awaiting operations order stack registers saved responses awaiting′ stack′ registers′ saved′ responses′ r
-all-due {core} {awaiting} {operations} {order} {stack} {registers} {saved} {responses} {between} {awaiting′} {stack′} {registers′} {saved′}
-    {responses′} {undos} {r} is back all = record {
-      kept = λ p inv.
-          let before = executeParts p (p .counters) core awaiting operations order stack registers saved responses in
-          let middle = undoParts before (undosCounted (p .counters) (core .stacked - core .executed))
-          (withBoard core (core .executed) (core .executed)) operations stack between saved in
-          let first = back .back before inv in
-          let second = all .all middle (first .invariant) in
-          let ran = ranParts p (undosCounted (p .counters) (core .stacked - core .executed)) r awaiting′ operations order stack′ registers′ saved′
-          responses′ in
-          subst (λ (n : ℕ). RunDue before (ranParts p (undosCounted (p .counters) n) r awaiting′ operations order stack′ registers′ saved′ responses′))
-          (sym (second .handed ∙ is))
-          (run-through before middle ran inv first (subst (λ (n : ℕ). ExecutedAll middle n ran) is second));
-    }
+-- what an undo is lent of what an execution is lent
+abbrev pub undoPart : ExecuteLent → UndoLent
+undoPart l = undoWith (l .executed) (l .stacked) (l .operations) (l .stack) (l .registers) (l .saved)
+
+-- the same with so many left on the board, and those registers
+abbrev pub rolledBack : ExecuteLent → ℕ → List ℕ → ExecuteLent
+rolledBack l stacked registers =
+    executeChanged l (l .executed) stacked (l .awaiting) (l .stack) registers (l .saved) (l .responses)
+
+pub all-due : (l : ExecuteLent) {stacked : ℕ} {registers : List ℕ} {after : ExecuteLent} {undos : ℕ} {r : DueSteps}
+    → undos ≡ l .stacked - l .executed → AllUndone (undoPart l) (undoChanged (undoPart l) stacked registers)
+    → AllExecuted (rolledBack l stacked registers) undos after r → DueKept l after r
+all-due l {stacked} {registers} {after} {r = r} is back all = record {
+  kept = λ p inv.
+      let undone = withUndos (l .stacked - l .executed) p in
+      let middle = executing (rolledBack l stacked registers) undone in
+      let ran = ranTo r (executing after (withExecutions (r .executions) undone)) in
+      let first = back .back (executing l p) inv in
+      let second = all .all undone (first .invariant) in
+      subst (λ (n : ℕ). RunDue (executing l p) (ranTo r (executing after (withExecutions (r .executions) (withUndos n p)))))
+      (sym (second .handed ∙ is))
+      (run-through (executing l p) middle ran inv first (subst (λ (n : ℕ). ExecutedAll middle n ran) is second));
+}

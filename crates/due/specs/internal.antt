@@ -1,2 +1,3 @@
 -- What only functions over the parts of a panel and proofs cite.
 pub mod Parts
+pub mod WithCore

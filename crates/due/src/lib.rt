@@ -1,11 +1,14 @@
 // All due steps in one call: what is to be rolled back is undone, then what is to do is executed.
+pub mod with_core;
+
 use creek::Reply;
 use creek::mark::NOBODY;
 use numbers::Number;
-use replica::Core;
 use request::asks;
 use request::refusal;
+pub use with_core::run_due_with_core;
 ghost use mathlib.Core.Path.{_≡_};
+ghost use Rattle.steps.specs.Lent.{undoNow, undoEntry, undoExit, executeNow, executeEntry, executeExit};
 ghost use Rattle.steps.specs.Steps.{UndoAsks, ExecuteAsks};
 ghost use Rattle.due.specs.Due.{noReply};
 ghost use Rattle.due.specs.internal.Parts.{AllUndone, AllExecuted, DueKept};
@@ -19,15 +22,12 @@ pub struct DueSteps {
     pub replies: [Reply; 64],
 }
 
-// What run_due returns: the core after it, and the steps done.
-pub struct DueResult {
-    pub core: Core,
-    pub due: DueSteps,
-}
-
 // Every due step until the panel is idle, with the replies that fall due on the way.
 pub fn run_due<'a>(
-    core: Core,
+    committed: usize,
+    ordered: usize,
+    executed: &mut usize,
+    stacked: &mut usize,
     awaiting: &mut [u64; 8],
     operations: &'a [u64; 512],
     order: &'a [u16; 512],
@@ -35,18 +35,18 @@ pub fn run_due<'a>(
     registers: &mut [u32; 64],
     saved: &mut [u64; 512],
     responses: &mut [u32; 512],
-) -> DueResult
-    requires { ⌜ ExecuteAsks core (now awaiting) (now operations) (now order) (now stack) (now registers) (now saved) (now responses) ⌝ }
-    ensures { λ r. ⌜ DueKept core (now (awaiting .entry)) (now (operations .entry)) (now (order .entry)) (now (stack .entry))
-        (now (registers .entry)) (now (saved .entry)) (now (responses .entry))
-        (now (awaiting .exit)) (now (stack .exit)) (now (registers .exit)) (now (saved .exit)) (now (responses .exit)) r ⌝ }
+) -> DueSteps
+    requires { ⌜ ExecuteAsks (executeNow committed ordered executed stacked awaiting operations order stack registers saved responses) ⌝ }
+    ensures { λ r. ⌜ DueKept (executeEntry committed ordered executed stacked awaiting operations order stack registers saved responses)
+        (executeExit committed ordered executed stacked awaiting operations order stack registers saved responses) r ⌝ }
 {
-    let undos = (core.stacked - core.executed) as u32;
-    roll_back_all(core, operations, stack, registers, saved);
-    let mut back = core;
-    back.stacked = core.executed;
+    let undos = (*stacked - *executed) as u32;
+    roll_back_all(*executed, stacked, operations, stack, registers, saved);
     execute_all(
-        back,
+        committed,
+        ordered,
+        executed,
+        stacked,
         undos,
         awaiting,
         operations,
@@ -60,26 +60,31 @@ pub fn run_due<'a>(
 
 // Undoes what is to be rolled back.
 fn roll_back_all<'a>(
-    core: Core,
+    executed: usize,
+    stacked: &mut usize,
     operations: &'a [u64; 512],
     stack: &'a [u16; 512],
     registers: &mut [u32; 64],
     saved: &'a [u64; 512],
 )
-    requires { ⌜ UndoAsks core (now operations) (now stack) (now registers) (now saved) ⌝ }
-    ensures { λ _. ⌜ AllUndone core (now (operations .entry)) (now (stack .entry)) (now (registers .entry)) (now (saved .entry))
-        (now (registers .exit)) ⌝ }
+    requires { ⌜ UndoAsks (undoNow executed stacked operations stack registers saved) ⌝ }
+    ensures { λ _. ⌜ AllUndone (undoEntry executed stacked operations stack registers saved)
+        (undoExit executed stacked operations stack registers saved) ⌝ }
 {
-    let mut stacked = core.stacked;
-    while core.executed < stacked {
-        stacked -= 1;
-        steps::take_off(operations, stack, registers, saved, stacked);
+    let mut left = *stacked;
+    while executed < left {
+        left -= 1;
+        steps::take_off(operations, stack, registers, saved, left);
     }
+    *stacked = left;
 }
 
 // Executes what is to do, with nothing to be rolled back; `undos` is handed through.
 fn execute_all<'a>(
-    core: Core,
+    committed: usize,
+    ordered: usize,
+    executed: &mut usize,
+    stacked: &mut usize,
     undos: u32,
     awaiting: &mut [u64; 8],
     operations: &'a [u64; 512],
@@ -88,19 +93,17 @@ fn execute_all<'a>(
     registers: &mut [u32; 64],
     saved: &mut [u64; 512],
     responses: &mut [u32; 512],
-) -> DueResult
-    requires { ⌜ ExecuteAsks core (now awaiting) (now operations) (now order) (now stack) (now registers) (now saved) (now responses) ⌝ }
-    requires { ⌜ core .executed ≡ core .stacked ⌝ }
-    ensures { λ r. ⌜ AllExecuted core undos (now (awaiting .entry)) (now (operations .entry)) (now (order .entry)) (now (stack .entry))
-        (now (registers .entry)) (now (saved .entry)) (now (responses .entry))
-        (now (awaiting .exit)) (now (stack .exit)) (now (registers .exit)) (now (saved .exit)) (now (responses .exit)) r ⌝ }
+) -> DueSteps
+    requires { ⌜ ExecuteAsks (executeNow committed ordered executed stacked awaiting operations order stack registers saved responses) ⌝ }
+    requires { ⌜ now executed ≡ now stacked ⌝ }
+    ensures { λ r. ⌜ AllExecuted (executeEntry committed ordered executed stacked awaiting operations order stack registers saved responses)
+        undos (executeExit committed ordered executed stacked awaiting operations order stack registers saved responses) r ⌝ }
 {
-    let committed = core.committed;
-    let ordered = core.ordered;
-    let executions = (ordered - core.executed) as u32;
+    let first = *executed;
+    let executions = (ordered - first) as u32;
     let mut replies = [no_reply(); 64];
     let mut count: usize = 0;
-    let mut at = core.executed;
+    let mut at = first;
     while at < ordered {
         let slot = order[at];
         let asked = store::asked_at(operations, slot as usize);
@@ -127,16 +130,14 @@ fn execute_all<'a>(
         replies[count] = next;
         count += 1;
     }
-    let mut after = core;
-    after.executed = ordered;
-    after.stacked = ordered;
-    let due = DueSteps {
+    *executed = ordered;
+    *stacked = ordered;
+    DueSteps {
         undos,
         executions,
         count,
         replies,
-    };
-    DueResult { core: after, due }
+    }
 }
 
 // The reply of zeros, which stands behind those that fell due. Its number is given by parts, by which the compiler fills the replies in

@@ -77,8 +77,8 @@ pub fn take<'a>(
             let standing = *ordered;
             settling::commit(
                 panels,
-                committed,
                 standing,
+                committed,
                 executed,
                 commits,
                 held,

@@ -2,9 +2,9 @@
 pub mod PanelParts
 pub mod PanelWalk
 pub mod PanelReads
-pub mod Outcomes
 pub mod ChangingCall
 pub mod LentParts
+pub mod LentRecords
 pub mod CountedSteps
 pub mod ShownCall
 pub mod ShownNumber

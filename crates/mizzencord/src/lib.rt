@@ -1,7 +1,7 @@
 // A panel as a component: its whole memory in one struct, which the caller owns, and the calls on it for C and every language that calls C.
 //
-// A call on a panel lends the parts that it uses to the function of `replica`, `entering`, `settling`, `intake`, `steps` or `due` that does
-// the work, and stores the core that comes back: nothing else is copied. `include/mizzencord.h` declares all calls, and `docs/CALLS.md` says
+// A call on a panel reads the numbers and lends the counts and arrays that the function of `replica`, `entering`, `settling`, `intake`, `steps`
+// or `due` uses, which does the work in place: nothing is copied. `include/mizzencord.h` declares all calls, and `docs/CALLS.md` says
 // what they answer. Here are the calls that change a panel; those that show one are in `showing`, those on bytes alone in `bytes`.
 pub mod bytes;
 pub mod showing;
@@ -13,7 +13,6 @@ use due::DueSteps;
 use intake::Receipt;
 use numbers::Number;
 use numbers::PanelNo;
-use replica::Core;
 use request::Request;
 ghost use Rattle.creek.specs.Book.{undo as undoCall, execute as executeCall, deliver as deliverCall, invoke as invokeCall, commit as commitCall};
 ghost use Rattle.replica.specs.Promises.{Fresh, Kept};
@@ -26,8 +25,16 @@ ghost use Rattle.mizzencord.specs.Memory.{memory, ran};
 // A panel's memory. Only this crate makes and changes one.
 #[repr(C)]
 pub struct Panel {
-    core: Core,
+    committed: usize,
+    ordered: usize,
+    executed: usize,
+    stacked: usize,
+    commits: u32,
+    clock: u32,
     counters: Counters,
+    panels: u8,
+    own: PanelNo,
+    events: u8,
     held: [u64; 8],
     known: [u64; 8],
     awaiting: [u64; 8],
@@ -47,6 +54,14 @@ pub extern "C" fn mizzencord_fresh(p: &mut Panel, panels: u8, own: PanelNo) -> u
     ensures { λ w. ⌜ Fresh panels (own .0) (record { refusal = w; state = memory (now (p .exit)) }) ⌝ }
 {
     let opened = replica::fresh(
+        &mut p.committed,
+        &mut p.ordered,
+        &mut p.executed,
+        &mut p.stacked,
+        &mut p.commits,
+        &mut p.clock,
+        &mut p.panels,
+        &mut p.events,
         &mut p.held,
         &mut p.known,
         &mut p.awaiting,
@@ -62,7 +77,7 @@ pub extern "C" fn mizzencord_fresh(p: &mut Panel, panels: u8, own: PanelNo) -> u
         own,
     );
     p.counters = opened.counters;
-    p.core = opened.core;
+    p.own = opened.own;
     opened.refusal
 }
 
@@ -72,8 +87,13 @@ pub extern "C" fn mizzencord_invoke(p: &mut Panel, i: Invocation) -> Answer
     requires { ⌜ Inv (memory (now p)) ⌝ }
     ensures { λ a. ⌜ Kept (memory (now (p .entry))) (invokeCall i) (record { answer = a; state = memory (now (p .exit)) }) ⌝ }
 {
-    let done = entering::invoke(
-        p.core,
+    entering::invoke(
+        p.own,
+        p.committed,
+        &mut p.ordered,
+        &mut p.executed,
+        &mut p.clock,
+        &mut p.events,
         &mut p.held,
         &mut p.known,
         &mut p.awaiting,
@@ -82,9 +102,7 @@ pub extern "C" fn mizzencord_invoke(p: &mut Panel, i: Invocation) -> Answer
         &mut p.contexts,
         &mut p.order,
         i,
-    );
-    p.core = done.core;
-    done.answer
+    )
 }
 
 // A request of another panel is heard.
@@ -93,8 +111,12 @@ pub extern "C" fn mizzencord_deliver(p: &mut Panel, x: Request) -> Answer
     requires { ⌜ Inv (memory (now p)) ⌝ }
     ensures { λ a. ⌜ Kept (memory (now (p .entry))) (deliverCall x) (record { answer = a; state = memory (now (p .exit)) }) ⌝ }
 {
-    let done = entering::deliver(
-        p.core,
+    entering::deliver_request(
+        p.panels,
+        p.own,
+        p.committed,
+        &mut p.ordered,
+        &mut p.executed,
         &mut p.held,
         &mut p.known,
         &mut p.clocks,
@@ -102,9 +124,7 @@ pub extern "C" fn mizzencord_deliver(p: &mut Panel, x: Request) -> Answer
         &mut p.contexts,
         &mut p.order,
         x,
-    );
-    p.core = done.core;
-    done.answer
+    )
 }
 
 // Settle the request of number n.
@@ -113,8 +133,12 @@ pub extern "C" fn mizzencord_commit(p: &mut Panel, n: Number) -> Answer
     requires { ⌜ Inv (memory (now p)) ⌝ }
     ensures { λ a. ⌜ Kept (memory (now (p .entry))) (commitCall n) (record { answer = a; state = memory (now (p .exit)) }) ⌝ }
 {
-    let done = settling::commit(
-        p.core,
+    settling::commit_answer(
+        p.panels,
+        p.ordered,
+        &mut p.committed,
+        &mut p.executed,
+        &mut p.commits,
         &p.held,
         &mut p.known,
         &mut p.awaiting,
@@ -124,9 +148,7 @@ pub extern "C" fn mizzencord_commit(p: &mut Panel, n: Number) -> Answer
         &p.stack,
         &p.responses,
         n,
-    );
-    p.core = done.core;
-    done.answer
+    )
 }
 
 // The message at a place of the bytes is read, and heard or settled; what cannot be read leaves the panel alone.
@@ -135,10 +157,15 @@ pub extern "C" fn mizzencord_receive(p: &mut Panel, bytes: &[u8], at: usize) -> 
     requires { ⌜ Inv (memory (now p)) ⌝ }
     ensures { λ r. ⌜ Received (memory (now (p .entry))) (readAt (now (bytes .entry)) at) r (memory (now (p .exit))) ⌝ }
 {
-    let done = intake::receive(
+    intake::receive(
         bytes,
         at,
-        p.core,
+        p.panels,
+        p.own,
+        &mut p.committed,
+        &mut p.ordered,
+        &mut p.executed,
+        &mut p.commits,
         &mut p.held,
         &mut p.known,
         &mut p.awaiting,
@@ -148,9 +175,7 @@ pub extern "C" fn mizzencord_receive(p: &mut Panel, bytes: &[u8], at: usize) -> 
         &mut p.order,
         &p.stack,
         &p.responses,
-    );
-    p.core = done.core;
-    done.receipt
+    )
 }
 
 // Undo one step.
@@ -159,9 +184,15 @@ pub extern "C" fn mizzencord_undo(p: &mut Panel) -> Answer
     requires { ⌜ Inv (memory (now p)) ⌝ }
     ensures { λ a. ⌜ Kept (memory (now (p .entry))) undoCall (record { answer = a; state = memory (now (p .exit)) }) ⌝ }
 {
-    let done = steps::undo(p.core, &p.operations, &p.stack, &mut p.registers, &p.saved);
+    let done = steps::undo_step(
+        p.executed,
+        &mut p.stacked,
+        &p.operations,
+        &p.stack,
+        &mut p.registers,
+        &p.saved,
+    );
     counters::count_undos(&mut p.counters, done.steps);
-    p.core = done.core;
     done.answer
 }
 
@@ -171,8 +202,11 @@ pub extern "C" fn mizzencord_execute(p: &mut Panel) -> Answer
     requires { ⌜ Inv (memory (now p)) ⌝ }
     ensures { λ a. ⌜ Kept (memory (now (p .entry))) executeCall (record { answer = a; state = memory (now (p .exit)) }) ⌝ }
 {
-    let done = steps::execute(
-        p.core,
+    let done = steps::execute_step(
+        p.committed,
+        p.ordered,
+        &mut p.executed,
+        &mut p.stacked,
         &mut p.awaiting,
         &p.operations,
         &p.order,
@@ -182,7 +216,6 @@ pub extern "C" fn mizzencord_execute(p: &mut Panel) -> Answer
         &mut p.responses,
     );
     counters::count_executions(&mut p.counters, done.steps);
-    p.core = done.core;
     done.answer
 }
 
@@ -193,7 +226,10 @@ pub extern "C" fn mizzencord_run_due(p: &mut Panel) -> DueSteps
     ensures { λ r. ⌜ RunDue (memory (now (p .entry))) (ran r (memory (now (p .exit)))) ⌝ }
 {
     let done = due::run_due(
-        p.core,
+        p.committed,
+        p.ordered,
+        &mut p.executed,
+        &mut p.stacked,
         &mut p.awaiting,
         &p.operations,
         &p.order,
@@ -202,8 +238,7 @@ pub extern "C" fn mizzencord_run_due(p: &mut Panel) -> DueSteps
         &mut p.saved,
         &mut p.responses,
     );
-    counters::count_undos(&mut p.counters, done.due.undos);
-    counters::count_executions(&mut p.counters, done.due.executions);
-    p.core = done.core;
-    done.due
+    counters::count_undos(&mut p.counters, done.undos);
+    counters::count_executions(&mut p.counters, done.executions);
+    done
 }

@@ -25,7 +25,7 @@ pub extern "C" fn mizzencord_requests(p: &Panel) -> usize
     requires { ⌜ Inv (memory (now p)) ⌝ }
     ensures { λ n. ⌜ n ≡ requestsShown (model (memory (now (p .entry)))) ⌝ }
 {
-    replica::requests(p.core)
+    replica::requests(p.ordered)
 }
 
 // The length of the settled list.
@@ -34,7 +34,7 @@ pub extern "C" fn mizzencord_committed(p: &Panel) -> usize
     requires { ⌜ Inv (memory (now p)) ⌝ }
     ensures { λ n. ⌜ n ≡ committedShown (model (memory (now (p .entry)))) ⌝ }
 {
-    replica::committed(p.core)
+    replica::committed(p.committed)
 }
 
 // The count of accepted settlements.
@@ -43,7 +43,7 @@ pub extern "C" fn mizzencord_commits(p: &Panel) -> u32
     requires { ⌜ Inv (memory (now p)) ⌝ }
     ensures { λ n. ⌜ n ≡ commitsShown (model (memory (now (p .entry)))) ⌝ }
 {
-    replica::commits(p.core)
+    replica::commits(p.commits)
 }
 
 // The steps owed.
@@ -52,7 +52,7 @@ pub extern "C" fn mizzencord_owed(p: &Panel) -> usize
     requires { ⌜ Inv (memory (now p)) ⌝ }
     ensures { λ n. ⌜ n ≡ owedShown (model (memory (now (p .entry)))) ⌝ }
 {
-    replica::owed(p.core)
+    replica::owed(p.ordered, p.executed, p.stacked)
 }
 
 // The undos done.
@@ -80,7 +80,7 @@ pub extern "C" fn mizzencord_at_place(p: &Panel, place: usize) -> PlacedRequest
     ensures { λ r. ⌜ PlaceShown (memory (now (p .entry))) place r ⌝ }
 {
     replica::at_place(
-        p.core,
+        p.ordered,
         &p.clocks,
         &p.operations,
         &p.contexts,

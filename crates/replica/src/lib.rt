@@ -38,7 +38,7 @@ ghost use Rattle.sets.specs.Sets.{setOf};
 ghost use Rattle.creek.specs.Calls.{badShop};
 ghost use Rattle.creek.specs.Replies.{refusedWith, reply as replyOf, done as doneOf, replyAnswer, replyIn, stepsDone, awaitingAfter};
 ghost use Rattle.replica.specs.internal.Cores.{firstCore};
-ghost use Rattle.replica.specs.internal.Parts.{FreshKept};
+ghost use Rattle.replica.specs.internal.Parts.{FreshKept, openedBy};
 
 // The small part of a panel's memory, which the calls take and return by value.
 #[repr(C)]
@@ -54,7 +54,14 @@ pub struct Core {
     pub commits: u32,
 }
 
-// What fresh returns.
+// What fresh returns beside the parts that it is lent.
+pub struct Opening {
+    pub counters: Counters,
+    pub own: PanelNo,
+    pub refusal: u8,
+}
+
+// What fresh returns to a caller that has a panel's numbers by value.
 pub struct FreshResult {
     pub core: Core,
     pub counters: Counters,
@@ -81,8 +88,71 @@ pub struct PlacedRequest {
     pub refusal: u8,
 }
 
-// Makes the lent arrays those of a panel with empty lists and a zero board; a refused one is a one-panel shop, panel 0.
+// Makes the lent parts those of a panel with empty lists and a zero board; a refused one is a one-panel shop, panel 0. The number of panels
+// is lent as `shop`.
 pub fn fresh(
+    committed: &mut usize,
+    ordered: &mut usize,
+    executed: &mut usize,
+    stacked: &mut usize,
+    commits: &mut u32,
+    clock: &mut u32,
+    shop: &mut u8,
+    events: &mut u8,
+    held: &mut [u64; 8],
+    known: &mut [u64; 8],
+    awaiting: &mut [u64; 8],
+    clocks: &mut [u32; 512],
+    operations: &mut [u64; 512],
+    contexts: &mut [u64; 4096],
+    order: &mut [u16; 512],
+    stack: &mut [u16; 512],
+    registers: &mut [u32; 64],
+    saved: &mut [u64; 512],
+    responses: &mut [u32; 512],
+    panels: u8,
+    own: PanelNo,
+) -> Opening
+    ensures { λ r. ⌜ FreshKept panels (own .0) (now (held .exit)) (now (known .exit)) (now (awaiting .exit)) (now (clocks .exit))
+        (now (operations .exit)) (now (contexts .exit)) (now (order .exit)) (now (stack .exit)) (now (registers .exit)) (now (saved .exit))
+        (now (responses .exit)) (openedBy (now (committed .exit)) (now (ordered .exit)) (now (executed .exit)) (now (stacked .exit))
+        (now (commits .exit)) (now (clock .exit)) (now (shop .exit)) (now (events .exit)) r) ⌝ }
+{
+    let opened = fresh_with_core(
+        held,
+        known,
+        awaiting,
+        clocks,
+        operations,
+        contexts,
+        order,
+        stack,
+        registers,
+        saved,
+        responses,
+        panels,
+        own,
+    );
+    let core = opened.core;
+    let counters = opened.counters;
+    *committed = core.committed;
+    *ordered = core.ordered;
+    *executed = core.executed;
+    *stacked = core.stacked;
+    *commits = core.commits;
+    *clock = core.clock.0;
+    *shop = core.panels;
+    *events = core.events;
+    let number = core.own;
+    Opening {
+        counters,
+        own: number,
+        refusal: opened.refusal,
+    }
+}
+
+// The same for a caller that has a panel's numbers by value.
+pub fn fresh_with_core(
     held: &mut [u64; 8],
     known: &mut [u64; 8],
     awaiting: &mut [u64; 8],

@@ -1,5 +1,4 @@
-// The showing calls, which change nothing. What is shown of the core and of the counters is shown of every panel that has them.
-use super::Core;
+// The showing calls, which change nothing. What is shown of a panel's numbers is shown of every panel that has them.
 use super::PlacedRequest;
 use super::RegisterValue;
 use counters::Counters;
@@ -8,7 +7,7 @@ use request::refusal;
 use store::requests as stored;
 ghost use Rattle.creek.specs.Showing.{requestsShown, commitsShown, undosShown, executionsShown, owedShown};
 ghost use Rattle.replica.specs.Shown.{committedShown};
-ghost use Rattle.replica.specs.internal.Parts.{CoreAsks, CoreShows, CountersShow, RegisterKept, PlaceAsks, PlaceKept};
+ghost use Rattle.replica.specs.internal.Parts.{Asks, Shows, withOrdered, withCommitted, withCommits, withCounters, withOwed, RegisterKept, PlaceAsks, PlaceKept};
 
 // The value of register k.
 pub fn register(registers: &[u32; 64], k: u8) -> RegisterValue
@@ -28,61 +27,61 @@ pub fn register(registers: &[u32; 64], k: u8) -> RegisterValue
 }
 
 // The count of accepted requests.
-pub fn requests(core: Core) -> usize
-    ensures { λ n. ⌜ CoreShows core requestsShown n ⌝ }
+pub fn requests(ordered: usize) -> usize
+    ensures { λ n. ⌜ Shows (withOrdered ordered) requestsShown n ⌝ }
 {
-    core.ordered
+    ordered
 }
 
 // The length of the settled list.
-pub fn committed(core: Core) -> usize
-    ensures { λ n. ⌜ CoreShows core committedShown n ⌝ }
+pub fn committed(committed: usize) -> usize
+    ensures { λ n. ⌜ Shows (withCommitted committed) committedShown n ⌝ }
 {
-    core.committed
+    committed
 }
 
 // The count of accepted settlements.
-pub fn commits(core: Core) -> u32
-    ensures { λ n. ⌜ CoreShows core commitsShown n ⌝ }
+pub fn commits(commits: u32) -> u32
+    ensures { λ n. ⌜ Shows (withCommits commits) commitsShown n ⌝ }
 {
-    core.commits
+    commits
 }
 
 // The undos done.
 pub fn undos(counters: Counters) -> u32
-    ensures { λ n. ⌜ CountersShow counters undosShown n ⌝ }
+    ensures { λ n. ⌜ Shows (withCounters counters) undosShown n ⌝ }
 {
     counters.undos
 }
 
 // The executions done.
 pub fn executions(counters: Counters) -> u32
-    ensures { λ n. ⌜ CountersShow counters executionsShown n ⌝ }
+    ensures { λ n. ⌜ Shows (withCounters counters) executionsShown n ⌝ }
 {
     counters.executions
 }
 
 // The steps owed.
-pub fn owed(core: Core) -> usize
-    requires { ⌜ CoreAsks core ⌝ }
-    ensures { λ n. ⌜ CoreShows core owedShown n ⌝ }
+pub fn owed(ordered: usize, executed: usize, stacked: usize) -> usize
+    requires { ⌜ Asks (withOwed ordered executed stacked) ⌝ }
+    ensures { λ n. ⌜ Shows (withOwed ordered executed stacked) owedShown n ⌝ }
 {
-    (core.stacked - core.executed) + (core.ordered - core.executed)
+    (stacked - executed) + (ordered - executed)
 }
 
 // The request at a place of the standing order, places counted from 1.
 pub fn at_place<'a>(
-    core: Core,
+    ordered: usize,
     clocks: &'a [u32; 512],
     operations: &'a [u64; 512],
     contexts: &'a [u64; 4096],
     order: &'a [u16; 512],
     place: usize,
 ) -> PlacedRequest
-    requires { ⌜ PlaceAsks core (now clocks) (now operations) (now contexts) (now order) ⌝ }
-    ensures { λ r. ⌜ PlaceKept core (now (clocks .entry)) (now (operations .entry)) (now (contexts .entry)) (now (order .entry)) place r ⌝ }
+    requires { ⌜ PlaceAsks ordered (now clocks) (now operations) (now contexts) (now order) ⌝ }
+    ensures { λ r. ⌜ PlaceKept ordered (now (clocks .entry)) (now (operations .entry)) (now (contexts .entry)) (now (order .entry)) place r ⌝ }
 {
-    if (place == 0) | (core.ordered < place) {
+    if (place == 0) | (ordered < place) {
         let request = request::none();
         return PlacedRequest {
             refusal: refusal::NOT_HERE,

@@ -17,8 +17,8 @@ ghost use Rattle.settling.specs.Settling.{lentNow, lentEntry, lentExit, 
 // Settle the request of number n.
 pub fn commit<'a>(
     panels: u8,
-    committed: &mut usize,
     ordered: usize,
+    committed: &mut usize,
     executed: &mut usize,
     commits: &mut u32,
     held: &'a [u64; 8],
@@ -76,8 +76,8 @@ pub fn commit<'a>(
 // The same, with its answer.
 pub fn commit_answer<'a>(
     panels: u8,
-    committed: &mut usize,
     ordered: usize,
+    committed: &mut usize,
     executed: &mut usize,
     commits: &mut u32,
     held: &'a [u64; 8],
@@ -98,8 +98,8 @@ pub fn commit_answer<'a>(
 {
     let reply = commit(
         panels,
-        committed,
         ordered,
+        committed,
         executed,
         commits,
         held,

@@ -108,7 +108,7 @@ fn take_in(
         m,
     );
     let answer = c.answer;
-    let ran = due::run_due(
+    let ran = due::run_due_with_core(
         c.core,
         awaiting,
         operations,
@@ -314,8 +314,8 @@ fn put_closing(
     requires { ⌜ at + mostTotalsBytes + mostRegistersBytes ≤ length (now out) ⌝ }
     ensures { λ r. ⌜ ClosingPut core counters (now (registers .entry)) (now (out .entry)) at (now (out .exit)) r ⌝ }
 {
-    let settled = replica::committed(core);
-    let unsettled = replica::requests(core) - settled;
+    let settled = replica::committed(core.committed);
+    let unsettled = replica::requests(core.ordered) - settled;
     let undone = replica::undos(counters);
     let carried = replica::executions(counters);
     let registers_at = report::put_totals(
@@ -400,7 +400,7 @@ fn put_shop(
 {
     let panels = input[0];
     let own = input[1];
-    let opened = replica::fresh(
+    let opened = replica::fresh_with_core(
         held,
         known,
         awaiting,

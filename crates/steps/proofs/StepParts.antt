@@ -6,6 +6,7 @@ use mathlib.Core.List.{List}
 use lib.ListN.{getD}
 use Rattle.counters.specs.declared.Counters.{Counters}
 use Rattle.counters.specs.Counted.{undosCounted, executionsCounted}
+use Rattle.numbers.specs.declared.Number.{Number}
 use Rattle.numbers.specs.Numbers.{noNumber}
 use Rattle.numbers.specs.internal.Slots.{numberOf}
 use Rattle.request.specs.declared.Asked.{Asked}
@@ -17,16 +18,16 @@ use Rattle.registers.specs.Effect.{Executed}
 use Rattle.registers.specs.Rollback.{savedOf, savedIn, SavedAs}
 use Rattle.slots.specs.Slots.{mostSlots, IsSlot}
 use Rattle.store.specs.Requests.{askedIn}
-use Rattle.creek.specs.declared.Answer.{Answer}
-use Rattle.creek.specs.Book.{undo, execute, refusal}
-use Rattle.creek.specs.Replies.{noMark, refusedWith, reply, namedByRefusal}
-use Rattle.replica.specs.declared.Core.{Core}
 use Rattle.creek.specs.declared.Reply.{Reply}
+use Rattle.creek.specs.Book.{undo, execute, refusal}
+use Rattle.creek.specs.Replies.{noMark, refusedWith, reply, replyAnswer, replyIn, stepsDone, namedByRefusal}
 use Rattle.replica.specs.State.{State}
-use Rattle.replica.specs.internal.Cores.{withBoard}
+use Rattle.replica.specs.internal.Cores.{coreIn}
+use Rattle.replica.specs.internal.Parts.{withCounters}
 use Rattle.replica.specs.Promises.{Kept}
 use Rattle.replica.specs.internal.Model.{bookOf, Inv}
-use Rattle.steps.specs.Steps.{undoParts, UndoKept, TopAsks, TakenOff, executeParts, ExecuteKept, PutOn}
+use Rattle.steps.specs.Lent.{UndoLent, undoChanged, undoing, ExecuteLent, executeChanged, executing}
+use Rattle.steps.specs.Steps.{UndoAsks, UndoKept, TopAsks, TakenOff, ExecuteAsks, ExecuteKept, PutOn}
 use Rattle.replica.proofs.KeptLaws.{kept-refused}
 use Rattle.replica.proofs.ModelLaws.{top-slot, next-slot}
 use Rattle.steps.proofs.UndoLaws.{undo-refused, undo-kept}
@@ -45,35 +46,34 @@ none-executed c k e =
 
 -- ---- undo
 
-module _ (core : Core) (operations stack registers saved : List ℕ) where
-  abbrev before : State → State
-  before p = undoParts p (p .counters) core operations stack registers saved
-
-  pub undo-none : core .executed ≡ core .stacked → (a : Answer) → a ≡ refusedWith refused.nothingToUndo noNumber
-      → UndoKept core operations stack registers saved registers (record { core = core; steps = 0; answer = a })
+module _ (l : UndoLent) where
+  pub undo-none : l .executed ≡ l .stacked → (r : Reply) → r ≡ replyIn (refusedWith refused.nothingToUndo noNumber)
+      → UndoKept l l (replyAnswer r) (stepsDone r)
   unfolding namedByRefusal
-  undo-none idle a answered = record {
-    kept = λ p inv.
-        subst (λ (k : Counters). Kept (before p) undo (record { answer = a; state = undoParts p k core operations stack registers saved }))
-        (none-undone (p .counters) 0 refl)
-        (kept-refused (before p) undo refused.nothingToUndo a inv (undo-refused (before p) inv idle) (λ e. omega arith) answered);
+  undo-none idle r said =
+      rw said record {
+        kept = λ p inv.
+            subst (λ (k : Counters). Kept (undoing l p) undo (record {
+              answer = refusedWith refused.nothingToUndo noNumber;
+              state = withCounters k (undoing l p);
+            }))
+            (none-undone (p .counters) 0 refl)
+            (kept-refused (undoing l p) undo refused.nothingToUndo _ inv (undo-refused (undoing l p) inv idle) (λ e. omega arith) refl);
+      }
+
+  pub undo-top : UndoAsks l → l .executed < l .stacked → TopAsks (l .stack) (l .stacked - 1)
+  undo-top asks due = record {
+    place = omega (arith, asks .invariant .counts);
+    slot = top-slot (undoing l (asks .panel)) (asks .invariant) due;
   }
 
-  pub undo-top : (p : State) → Inv (undoParts p (p .counters) core operations stack registers saved) → core .executed < core .stacked
-      → TopAsks stack (core .stacked - 1)
-  undo-top p inv due = record { place = omega (arith, inv .counts); slot = top-slot (before p) inv due }
-
-  pub undo-done : core .executed < core .stacked → {registers′ : List ℕ} {s : ℕ}
-      → TakenOff operations stack registers saved (core .stacked - 1) registers′ s → (a : Answer) → a ≡ reply (numberOf s) 0 noMark
-      → UndoKept core operations stack registers saved registers′ (record {
-        core = withBoard core (core .executed) (core .stacked - 1);
-        steps = 1;
-        answer = a;
-      })
-  undo-done due {registers′} off a answered = record {
+  pub undo-done : l .executed < l .stacked → {registers : List ℕ} {s : ℕ}
+      → TakenOff (l .operations) (l .stack) (l .registers) (l .saved) (l .stacked - 1) registers s → (n : Number) → n ≡ numberOf s
+      → UndoKept l (undoChanged l (l .stacked - 1) registers) (reply n 0 noMark) 1
+  undo-done due {registers} off n is = record {
     kept = λ p inv.
-        undo-kept (before p) inv due registers′ (off .rolled-back) (undosCounted (p .counters) 1) a refl
-        (answered ∙ ap (λ (t : ℕ). reply (numberOf t) 0 noMark) (off .slot));
+        undo-kept (undoing l p) inv due registers (off .rolled-back) (undosCounted (p .counters) 1) _ refl
+        (ap (λ (m : Number). reply m 0 noMark) (is ∙ ap numberOf (off .slot)));
   }
 
 -- ---- execute
@@ -119,53 +119,48 @@ next-by {committed} {at} {awaiting} {operations} {order} {stack} {registers} {sa
           awaiting′ stack′ saved′ responses′ r) a-is put);
     }
 
-module _ (core : Core) (awaiting operations order stack registers saved responses : List ℕ) where
-  abbrev start : State → State
-  start p = executeParts p (p .counters) core awaiting operations order stack registers saved responses
-
-  refused-by : (word : ℕ) → ((p : State) → Inv (start p) → refusal (bookOf (start p)) execute ≡ word) → (word ≡ refused.accepted → ⊥)
-      → (a : Answer) → a ≡ refusedWith word noNumber
-      → ExecuteKept core awaiting operations order stack registers saved responses awaiting stack registers saved responses
-      (record { core = core; steps = 0; answer = a })
+module _ (l : ExecuteLent) where
+  refused-by : (word : ℕ) → ((p : State) → Inv (executing l p) → refusal (bookOf (executing l p)) execute ≡ word)
+      → (word ≡ refused.accepted → ⊥) → ExecuteKept l l (refusedWith word noNumber) 0
   unfolding namedByRefusal
-  refused-by word by refuses a answered = record {
+  refused-by word by refuses = record {
     kept = λ p inv.
-        subst (λ (k : Counters). Kept (start p) execute (record {
-          answer = a;
-          state = executeParts p k core awaiting operations order stack registers saved responses;
+        subst (λ (k : Counters). Kept (executing l p) execute (record {
+          answer = refusedWith word noNumber;
+          state = withCounters k (executing l p);
         }))
         (none-executed (p .counters) 0 refl)
-        (kept-refused (start p) execute word a inv (by p inv) refuses answered);
+        (kept-refused (executing l p) execute word _ inv (by p inv) refuses refl);
   }
 
-  pub execute-first-undo : (p : State) → Inv (executeParts p (p .counters) core awaiting operations order stack registers saved responses)
-      → (core .executed ≡ core .stacked → ⊥) → (a : Answer) → a ≡ refusedWith refused.undoFirst noNumber
-      → ExecuteKept core awaiting operations order stack registers saved responses awaiting stack registers saved responses
-      (record { core = core; steps = 0; answer = a })
-  execute-first-undo p inv due =
-      refused-by refused.undoFirst (λ q again. execute-undo-first (start q) again (omega (arith, again .counts))) (λ e. omega arith)
+  pub execute-first-undo : (l .executed ≡ l .stacked → ⊥) → (r : Reply) → r ≡ replyIn (refusedWith refused.undoFirst noNumber)
+      → ExecuteKept l l (replyAnswer r) (stepsDone r)
+  execute-first-undo due r said =
+      rw said
+      (refused-by refused.undoFirst (λ p inv. execute-undo-first (executing l p) inv (omega (arith, inv .counts))) (λ e. omega arith))
 
-  module _ (idle : core .executed ≡ core .stacked) where
-    pub execute-none : core .executed ≡ core .ordered → (a : Answer) → a ≡ refusedWith refused.nothingToDo noNumber
-        → ExecuteKept core awaiting operations order stack registers saved responses awaiting stack registers saved responses
-        (record { core = core; steps = 0; answer = a })
-    execute-none all = refused-by refused.nothingToDo (λ q inv. execute-nothing (start q) inv idle all) (λ e. omega arith)
+  module _ (idle : l .executed ≡ l .stacked) where
+    pub execute-none : l .executed ≡ l .ordered → (r : Reply) → r ≡ replyIn (refusedWith refused.nothingToDo noNumber)
+        → ExecuteKept l l (replyAnswer r) (stepsDone r)
+    execute-none all r said =
+        rw said (refused-by refused.nothingToDo (λ p inv. execute-nothing (executing l p) inv idle all) (λ e. omega arith))
 
-    pub execute-next : (p : State) → Inv (executeParts p (p .counters) core awaiting operations order stack registers saved responses)
-        → core .executed < core .ordered → NextAsks order (core .executed)
-    execute-next p inv more = record { place = omega (arith, inv .counts); slot = next-slot (start p) inv more }
+    pub execute-next : ExecuteAsks l → l .executed < l .ordered → NextAsks (l .order) (l .executed)
+    execute-next asks more = record {
+      place = omega (arith, asks .invariant .counts);
+      slot = next-slot (executing l (asks .panel)) (asks .invariant) more;
+    }
 
-    pub execute-done : core .executed < core .ordered → {awaiting′ stack′ registers′ saved′ responses′ : List ℕ} {r : Reply}
-        → Next (core .committed) awaiting operations order stack registers saved responses (core .executed)
-        awaiting′ stack′ registers′ saved′ responses′ r
-        → (a : Answer) → a ≡ reply (r .number) (r .response) (r .mark)
-        → ExecuteKept core awaiting operations order stack registers saved responses awaiting′ stack′ registers′ saved′ responses′
-        (record { core = withBoard core (core .executed + 1) (core .executed + 1); steps = 1; answer = a })
-    execute-done more {awaiting′} {registers′ = registers′} {r = r} next a answered = record {
+    pub execute-done : l .executed < l .ordered → {awaiting stack registers saved responses : List ℕ} {r : Reply}
+        → Next (l .committed) (l .awaiting) (l .operations) (l .order) (l .stack) (l .registers) (l .saved) (l .responses) (l .executed)
+        awaiting stack registers saved responses r
+        → ExecuteKept l (executeChanged l (l .executed + 1) (l .executed + 1) awaiting stack registers saved responses) (replyAnswer r)
+        (stepsDone r)
+    execute-done more {awaiting} {registers = registers} {r = r} next = record {
       kept = λ p inv.
           let put = next .put in
-          rw (put .on-board, put .kept, put .replied)
-          (execute-kept (start p) inv idle more registers′ (next .word) (r .response) (r .number) (r .mark) awaiting′
+          rw (put .on-board, put .kept, put .replied, put .refusal)
+          (execute-kept (executing l p) inv idle more registers (next .word) (r .response) (r .number) (r .mark) awaiting
           (executionsCounted (p .counters) 1) (next .restores) (next .done) (record { number = put .number; mark = put .mark }) (put .waits)
-          refl a answered);
+          refl _ refl);
     }

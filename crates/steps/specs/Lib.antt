@@ -1,2 +1,4 @@
 -- The definitions that the contracts cite.
+pub mod Lent
 pub mod Steps
+pub mod WithCore

@@ -5,44 +5,29 @@ use mathlib.Core.Bool.{Bool}
 use mathlib.Core.List.{List}
 use lib.ListN.{getD, set}
 use lib.Dec.{ltb}
-use Rattle.counters.specs.declared.Counters.{Counters}
-use Rattle.counters.specs.Counted.{undosCounted, executionsCounted}
 use Rattle.numbers.specs.internal.Slots.{numberOf}
 use Rattle.sets.specs.Sets.{setOf, member}
+use Rattle.request.specs.Asked.{operationOf}
+use Rattle.request.specs.Refusal as refused
 use Rattle.registers.specs.Rollback.{savedIn, restored}
 use Rattle.slots.specs.Slots.{mostSlots, IsSlot}
 use Rattle.store.specs.Requests.{askedIn}
+use Rattle.creek.specs.declared.Answer.{Answer}
+use Rattle.creek.specs.declared.Reply.{Reply}
 use Rattle.creek.specs.Book.{undo, execute}
 use Rattle.creek.specs.Replies.{awaitingAfter, markOf}
-use Rattle.replica.specs.declared.Core.{Core}
-use Rattle.creek.specs.declared.Reply.{Reply}
-use Rattle.steps.specs.declared.StepResult.{StepResult}
-use Rattle.replica.specs.State.{State, packed}
-use Rattle.replica.specs.Promises.{Kept}
-use Rattle.replica.specs.internal.Model.{Inv}
-use Rattle.request.specs.Asked.{operationOf}
-use Rattle.request.specs.Refusal as refused
+use Rattle.replica.specs.internal.Parts.{Asks, KeptBy}
+use Rattle.steps.specs.Lent.{UndoLent, undoing, ExecuteLent, executing, withUndos, withExecutions}
 
 -- ---- undo
 
--- p with those counters and the parts that an undo is lent
-abbrev pub undoParts : State → Counters → Core → (operations stack registers saved : List ℕ) → State
-undoParts p counters core operations stack registers saved =
-    packed core counters (p .held .words) (p .known .words) (p .awaiting .words) (p .clocks) operations (p .contexts) (p .order) stack
-    registers saved (p .responses)
+-- that is lent of a panel that came from fresh and the calls
+abbrev pub UndoAsks : UndoLent → Type 0
+UndoAsks l = Asks (undoing l)
 
--- they are the parts of a panel that came from fresh and the calls
-pub record UndoAsks (core : Core) (operations stack registers saved : List ℕ) : Type 0 where
-  pub panel : State
-  pub invariant : Inv (undoParts panel (panel .counters) core operations stack registers saved)
-
--- of every such panel: the undo was answered and carried out as `creek` says, with its steps counted
-pub record UndoKept (core : Core) (operations stack registers saved registers′ : List ℕ) (r : StepResult) : Type 0 where
-  pub kept : (p : State) → Inv (undoParts p (p .counters) core operations stack registers saved)
-      → Kept (undoParts p (p .counters) core operations stack registers saved) undo (record {
-        answer = r .answer;
-        state = undoParts p (undosCounted (p .counters) (r .steps)) (r .core) operations stack registers′ saved;
-      })
+-- of every such panel: the undo was answered and carried out as `creek` says, and so many steps are to be counted
+abbrev pub UndoKept : (before after : UndoLent) → Answer → (steps : ℕ) → Type 0
+UndoKept before after answer steps = KeptBy (undoing before) (λ p. undoing after (withUndos steps p)) undo answer
 
 -- at a place on the board stands a slot
 pub record TopAsks (stack : List ℕ) (top : ℕ) : Type 0 where
@@ -56,25 +41,12 @@ pub record TakenOff (operations stack registers saved : List ℕ) (top : ℕ) (r
 
 -- ---- execute
 
--- p with those counters and the parts that an execution is lent
-abbrev pub executeParts : State → Counters → Core → (awaiting operations order stack registers saved responses : List ℕ) → State
-executeParts p counters core awaiting operations order stack registers saved responses =
-    packed core counters (p .held .words) (p .known .words) awaiting (p .clocks) operations (p .contexts) order stack registers saved
-    responses
+-- the same of an execution
+abbrev pub ExecuteAsks : ExecuteLent → Type 0
+ExecuteAsks l = Asks (executing l)
 
-pub record ExecuteAsks (core : Core) (awaiting operations order stack registers saved responses : List ℕ) : Type 0 where
-  pub panel : State
-  pub invariant : Inv (executeParts panel (panel .counters) core awaiting operations order stack registers saved responses)
-
-pub record ExecuteKept (core : Core) (awaiting operations order stack registers saved responses : List ℕ)
-    (awaiting′ stack′ registers′ saved′ responses′ : List ℕ) (r : StepResult) : Type 0 where
-  pub kept : (p : State) → Inv (executeParts p (p .counters) core awaiting operations order stack registers saved responses)
-      → Kept (executeParts p (p .counters) core awaiting operations order stack registers saved responses) execute (record {
-        answer = r .answer;
-        state =
-            executeParts p (executionsCounted (p .counters) (r .steps)) (r .core) awaiting′ operations order stack′ registers′ saved′
-            responses′;
-      })
+abbrev pub ExecuteKept : (before after : ExecuteLent) → Answer → (steps : ℕ) → Type 0
+ExecuteKept before after answer steps = KeptBy (executing before) (λ p. executing after (withExecutions steps p)) execute answer
 
 -- the request in that slot, of that strength, was put on the board at place `at`, with that word saved and that response, where so many of
 -- the order are committed; its reply is r

@@ -1,7 +1,10 @@
 // The two steps: undo the first of the rollback list, execute the first of the to-do list.
 //
-// Taking a request off the board and putting one on are functions of their own, which all due steps at once (crate `due`) call too. The
-// steps are not counted here: a call says how many it did, and whoever has the counters counts them.
+// A step is given the numbers that it reads by value and lent the counts that it changes and the arrays; it returns its reply. Taking a
+// request off the board and putting one on are functions of their own, which all due steps at once (crate `due`) call too. The steps are
+// not counted here: whoever has the counters counts those that a reply says were done.
+pub mod with_core;
+
 use creek::Answer;
 use creek::Reply;
 use creek::mark::NOBODY;
@@ -9,52 +12,72 @@ use creek::mark::STABLE;
 use creek::mark::TENTATIVE;
 use creek::mark::WEAK;
 use numbers::Number;
-use replica::Core;
 use request::asks;
 use request::refusal;
+pub use with_core::execute_with_core;
+pub use with_core::undo_with_core;
 ghost use mathlib.Core.Path.{_≡_};
 ghost use mathlib.Core.Bool.{true};
 ghost use Prim.Native.Nat.{_<_};
 ghost use Rattle.slots.specs.Slots.{mostSlots};
-ghost use Rattle.creek.specs.Replies.{markOf};
+ghost use Rattle.creek.specs.Replies.{markOf, replyAnswer, stepsDone};
+ghost use Rattle.steps.specs.Lent.{undoNow, undoEntry, undoExit, executeNow, executeEntry, executeExit};
 ghost use Rattle.steps.specs.Steps.{UndoAsks, UndoKept, TopAsks, TakenOff, ExecuteAsks, ExecuteKept, PutOn};
 
-// What a step returns: the core after it, how many steps were done, which is 1 or, where it was refused, 0, and its answer.
-pub struct StepResult {
-    pub core: Core,
-    pub steps: u32,
+// A step as the component has it: its answer, and how many steps were done, which is 1 or, where it was refused, 0.
+pub struct Stepped {
     pub answer: Answer,
+    pub steps: u32,
 }
 
 // Undo one step: the first of the rollback list leaves the board, and its registers take their former values.
 pub fn undo<'a>(
-    core: Core,
+    executed: usize,
+    stacked: &mut usize,
     operations: &'a [u64; 512],
     stack: &'a [u16; 512],
     registers: &mut [u32; 64],
     saved: &'a [u64; 512],
-) -> StepResult
-    requires { ⌜ UndoAsks core (now operations) (now stack) (now registers) (now saved) ⌝ }
-    ensures { λ r. ⌜ UndoKept core (now (operations .entry)) (now (stack .entry)) (now (registers .entry)) (now (saved .entry))
-        (now (registers .exit)) r ⌝ }
+) -> Reply
+    requires { ⌜ UndoAsks (undoNow executed stacked operations stack registers saved) ⌝ }
+    ensures { λ r. ⌜ UndoKept (undoEntry executed stacked operations stack registers saved)
+        (undoExit executed stacked operations stack registers saved) (replyAnswer r) (stepsDone r) ⌝ }
 {
-    if core.executed == core.stacked {
-        let answer = replica::refused(refusal::NOTHING_TO_UNDO);
-        return StepResult {
-            core,
-            steps: 0,
-            answer,
-        };
+    let height = *stacked;
+    if executed == height {
+        return replica::refusing(refusal::NOTHING_TO_UNDO);
     }
-    let top = core.stacked - 1;
+    let top = height - 1;
     let slot = take_off(operations, stack, registers, saved, top);
-    let mut after = core;
-    after.stacked = top;
-    let answer = replica::reply(numbers::number_of(slot), 0, NOBODY);
-    StepResult {
-        core: after,
-        steps: 1,
+    *stacked = top;
+    let number = numbers::number_of(slot);
+    Reply {
+        response: 0,
+        number,
+        mark: NOBODY,
+        refusal: refusal::ACCEPTED,
+    }
+}
+
+// The same, with the answer and the steps done.
+pub fn undo_step<'a>(
+    executed: usize,
+    stacked: &mut usize,
+    operations: &'a [u64; 512],
+    stack: &'a [u16; 512],
+    registers: &mut [u32; 64],
+    saved: &'a [u64; 512],
+) -> Stepped
+    requires { ⌜ UndoAsks (undoNow executed stacked operations stack registers saved) ⌝ }
+    ensures { λ r. ⌜ UndoKept (undoEntry executed stacked operations stack registers saved)
+        (undoExit executed stacked operations stack registers saved) (r .answer) (r .steps) ⌝ }
+{
+    let undone = undo(executed, stacked, operations, stack, registers, saved);
+    let answer = replica::answer_of(undone);
+    let undos = replica::steps_done(undone);
+    Stepped {
         answer,
+        steps: undos,
     }
 }
 
@@ -80,7 +103,10 @@ pub fn take_off<'a>(
 
 // Carry out one step: the first of the to-do list is executed and joins the executed list.
 pub fn execute<'a>(
-    core: Core,
+    committed: usize,
+    ordered: usize,
+    executed: &mut usize,
+    stacked: &mut usize,
     awaiting: &mut [u64; 8],
     operations: &'a [u64; 512],
     order: &'a [u16; 512],
@@ -88,28 +114,18 @@ pub fn execute<'a>(
     registers: &mut [u32; 64],
     saved: &mut [u64; 512],
     responses: &mut [u32; 512],
-) -> StepResult
-    requires { ⌜ ExecuteAsks core (now awaiting) (now operations) (now order) (now stack) (now registers) (now saved) (now responses) ⌝ }
-    ensures { λ r. ⌜ ExecuteKept core (now (awaiting .entry)) (now (operations .entry)) (now (order .entry)) (now (stack .entry))
-        (now (registers .entry)) (now (saved .entry)) (now (responses .entry))
-        (now (awaiting .exit)) (now (stack .exit)) (now (registers .exit)) (now (saved .exit)) (now (responses .exit)) r ⌝ }
+) -> Reply
+    requires { ⌜ ExecuteAsks (executeNow committed ordered executed stacked awaiting operations order stack registers saved responses) ⌝ }
+    ensures { λ r. ⌜ ExecuteKept (executeEntry committed ordered executed stacked awaiting operations order stack registers saved responses)
+        (executeExit committed ordered executed stacked awaiting operations order stack registers saved responses) (replyAnswer r)
+        (stepsDone r) ⌝ }
 {
-    let at = core.executed;
-    if at != core.stacked {
-        let answer = replica::refused(refusal::UNDO_FIRST);
-        return StepResult {
-            core,
-            steps: 0,
-            answer,
-        };
+    let at = *executed;
+    if at != *stacked {
+        return replica::refusing(refusal::UNDO_FIRST);
     }
-    if at == core.ordered {
-        let answer = replica::refused(refusal::NOTHING_TO_DO);
-        return StepResult {
-            core,
-            steps: 0,
-            answer,
-        };
+    if at == ordered {
+        return replica::refusing(refusal::NOTHING_TO_DO);
     }
     let slot = order[at];
     let asked = store::asked_at(operations, slot as usize);
@@ -117,8 +133,11 @@ pub fn execute<'a>(
     let before = registers::save(registers, operation);
     let word = registers::saved_word(before);
     let response = registers::execute(registers, operation);
-    let next = put_on(
-        core.committed,
+    let more = at + 1;
+    *executed = more;
+    *stacked = more;
+    put_on(
+        committed,
         awaiting,
         stack,
         saved,
@@ -128,15 +147,46 @@ pub fn execute<'a>(
         asked.strong,
         word,
         response,
+    )
+}
+
+// The same, with the answer and the steps done.
+pub fn execute_step<'a>(
+    committed: usize,
+    ordered: usize,
+    executed: &mut usize,
+    stacked: &mut usize,
+    awaiting: &mut [u64; 8],
+    operations: &'a [u64; 512],
+    order: &'a [u16; 512],
+    stack: &mut [u16; 512],
+    registers: &mut [u32; 64],
+    saved: &mut [u64; 512],
+    responses: &mut [u32; 512],
+) -> Stepped
+    requires { ⌜ ExecuteAsks (executeNow committed ordered executed stacked awaiting operations order stack registers saved responses) ⌝ }
+    ensures { λ r. ⌜ ExecuteKept (executeEntry committed ordered executed stacked awaiting operations order stack registers saved responses)
+        (executeExit committed ordered executed stacked awaiting operations order stack registers saved responses) (r .answer)
+        (r .steps) ⌝ }
+{
+    let done = execute(
+        committed,
+        ordered,
+        executed,
+        stacked,
+        awaiting,
+        operations,
+        order,
+        stack,
+        registers,
+        saved,
+        responses,
     );
-    let mut after = core;
-    after.executed = at + 1;
-    after.stacked = at + 1;
-    let answer = replica::reply(next.number, next.response, next.mark);
-    StepResult {
-        core: after,
-        steps: 1,
+    let answer = replica::answer_of(done);
+    let executions = replica::steps_done(done);
+    Stepped {
         answer,
+        steps: executions,
     }
 }
 

@@ -1,9 +1,9 @@
 //! This crate's panel behind functions with the signatures of the library's:
 //! none is inlined in its caller, and structs cross by value as C's do.
 
-use mizzencord_compare::board::{Board, Handwritten};
-use mizzencord_compare::component::{Component, OwnPanel};
-use mizzencord_compare::header::*;
+use mizzencord_compare::interface::board::{Board, Handwritten};
+use mizzencord_compare::interface::component::{Component, OwnPanel};
+use mizzencord_compare::interface::header::*;
 
 #[no_mangle]
 #[inline(never)]

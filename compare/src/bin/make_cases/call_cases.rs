@@ -2,11 +2,13 @@
 //! them out, most of them about own clocks that are put back, the last about
 //! moves and about claims of neighbouring registers.
 
-use mizzencord_compare::calls::{self, List, CALLS_AT, CALL_SIZE};
-use mizzencord_compare::printout::MOST_BYTES;
-use mizzencord_compare::random::{self, Call, Random};
-use mizzencord_compare::request::*;
-use mizzencord_compare::wire::{Message, WEAK_LENGTH};
+use mizzencord_compare::drawing::random::Random;
+use mizzencord_compare::drawing::shift;
+use mizzencord_compare::replica::call::Call;
+use mizzencord_compare::replica::calls::{self, List, CALLS_AT, CALL_SIZE};
+use mizzencord_compare::replica::printout::MOST_BYTES;
+use mizzencord_compare::replica::request::*;
+use mizzencord_compare::replica::wire::{Message, WEAK_LENGTH};
 
 use crate::{
     add, bytes_of, claim, claims, heard_in_clock_order, moves, set, settlement, shift, strong, strong_of,
@@ -379,7 +381,7 @@ fn random_lists(cases: &mut Cases) {
     for place in 1..=40 {
         let seed = random.word();
         let length = random.one_of(&[60, 60, 60, 60, 70, 90, 160]);
-        let (panels, own, calls) = random::calls(seed, length);
+        let (panels, own, calls) = shift::calls(seed, length);
         cases.add(format!("random calls {place}"), list((panels, own), &calls).into_bytes());
     }
 }

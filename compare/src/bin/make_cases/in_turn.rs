@@ -1,10 +1,10 @@
 //! Operations that are done one after another, as messages and as lists of
 //! calls.
 
-use mizzencord_compare::calls::List;
-use mizzencord_compare::random::Call;
-use mizzencord_compare::request::*;
-use mizzencord_compare::wire::Message;
+use mizzencord_compare::replica::call::Call;
+use mizzencord_compare::replica::calls::List;
+use mizzencord_compare::replica::request::*;
+use mizzencord_compare::replica::wire::Message;
 
 use crate::call_cases::{make, read, step_by_step, take};
 use crate::{weak, SHOP};

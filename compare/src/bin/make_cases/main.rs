@@ -4,12 +4,16 @@
 use std::path::Path;
 use std::{env, fs, io};
 
-use mizzencord_compare::calls;
-use mizzencord_compare::panel::Panel;
-use mizzencord_compare::printout::{printout, MOST_BYTES};
-use mizzencord_compare::random::{append, awkward_input, bus_run, shop, Random};
-use mizzencord_compare::request::*;
-use mizzencord_compare::wire::{Message, SETTLEMENT_LENGTH, STRONG_LENGTH, WEAK_LENGTH};
+use mizzencord_compare::drawing::inputs::awkward_input;
+use mizzencord_compare::drawing::messages::bus_run;
+use mizzencord_compare::drawing::random::Random;
+use mizzencord_compare::drawing::shift::shop;
+use mizzencord_compare::replica::calls;
+use mizzencord_compare::replica::panel::Panel;
+use mizzencord_compare::replica::printout::{printout, MOST_BYTES};
+use mizzencord_compare::replica::request::*;
+use mizzencord_compare::replica::wire::append;
+use mizzencord_compare::replica::wire::{Message, SETTLEMENT_LENGTH, STRONG_LENGTH, WEAK_LENGTH};
 
 mod call_cases;
 mod claims;

@@ -1,9 +1,9 @@
 //! Cases of moves, as inputs of the printout program and, because a printout
 //! shows no response, once more as lists of calls.
 
-use mizzencord_compare::random::Call;
-use mizzencord_compare::request::*;
-use mizzencord_compare::wire::Message;
+use mizzencord_compare::replica::call::Call;
+use mizzencord_compare::replica::request::*;
+use mizzencord_compare::replica::wire::Message;
 
 use crate::call_cases::{list, make, make_strong, read, settle, take};
 use crate::in_turn::{done_twice, heard, named, one_by_one, with_reads};

@@ -15,7 +15,7 @@ abbrev else-1-from-after-run-all : tie.After-run-all → tie.Else1
 else-1-from-after-run-all c = c .before .before .before .before .before .before .before .before .before .before .before .before .before
 
 -- what the bytes ask for
-abbrev own : tie.After-fresh → tie.After-byte-at2
+abbrev own : tie.After-fresh-with-core → tie.After-byte-at2
 own c = c .before .before .before .before .before .before .before .before .before .before .before .before
 
 byte-at-requires : tie.Need-byte-at-requires
@@ -24,8 +24,8 @@ byte-at-requires c κs = search needs
 byte-at-requires-2 : tie.Need-byte-at-requires-2
 byte-at-requires-2 c κs = search needs
 
-fresh-requires : tie.Need-fresh-requires
-fresh-requires c κs = search needs
+fresh-with-core-requires : tie.Need-fresh-with-core-requires
+fresh-with-core-requires c κs = search needs
 
 call-count-requires : tie.Need-call-count-requires
 call-count-requires c κs = search needs
@@ -35,14 +35,14 @@ returns c =
     let counted = c .before .before .before in
     let opened = counted .before in
     let asked = own opened in
-    ran-nothing _ _ _ _ _ (asked .before .byte-at .ensures) (asked .byte-at2 .ensures) (opened .fresh .ensures .opened) _
+    ran-nothing _ _ _ _ _ (asked .before .byte-at .ensures) (asked .byte-at2 .ensures) (opened .fresh-with-core .ensures .opened) _
     (counted .call-count .ensures) (c .if1 .taken) _ _
 
 run-all-requires : tie.Need-run-all-requires
 run-all-requires c κs =
     let roomy = else-1-from-after-run-all-arg12 c in
     let counted = roomy .before .before .before in (
-      counted .before .fresh .ensures .opened .invariant,
+      counted .before .fresh-with-core .ensures .opened .invariant,
       (counted .call-count .ensures, answers-room _ _ _ (omega (arith, counted .call-count .ensures, roomy .if1 .left))),
     )
 
@@ -56,7 +56,7 @@ returns-2 c =
     let counted = roomy .before .before .before in
     let opened = counted .before in
     let asked = own opened in
-    ran-all _ _ _ _ _ (asked .before .byte-at .ensures) (asked .byte-at2 .ensures) (opened .fresh .ensures .opened) _
+    ran-all _ _ _ _ _ (asked .before .byte-at .ensures) (asked .byte-at2 .ensures) (opened .fresh-with-core .ensures .opened) _
     (counted .call-count .ensures) (roomy .if1 .left) _ _ (all .run-all .ensures) _ _
 
 pub run-spec : {M : Type 1} → statement M
@@ -65,7 +65,7 @@ run-spec =
     (tie.spec
     byte-at-requires
     byte-at-requires-2
-    fresh-requires
+    fresh-with-core-requires
     call-count-requires
     returns
     run-all-requires

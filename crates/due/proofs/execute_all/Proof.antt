@@ -4,17 +4,19 @@ use native.Mathlib.Omega.{arith}
 use mathlib.Core.Path.{refl}
 use borrow.Author.Needs.{needs}
 use Rattle.due.specs.Due.{mostReplies}
+use Rattle.steps.specs.Lent.{ExecuteLent, executeWith, executeNow}
 use Rattle.steps.proofs.StepParts.{NextAsks, Next, next-by}
 use Rattle.due.proofs.DueParts.{ExecutingParts, execute-start, execute-asks, execute-end, execute-quiet, execute-room, execute-replied}
 use Rattle.due.proofs.execute_all.Statement.{statement}
 use Rattle.due.proofs.execute_all.Tie as tie
 
 abbrev Inv-loop : tie.InvT-loop
-Inv-loop core undos awaiting₀ operations order stack₀ registers₀ saved₀ responses₀ committed ordered executions replies₀ count₀ at₀ awaiting stack registers saved responses replies count at =
-    ExecutingParts core awaiting₀ operations order stack₀ registers₀ saved₀ responses₀ awaiting stack registers saved responses replies count at
+Inv-loop committed ordered executed stacked undos awaiting₀ operations order stack₀ registers₀ saved₀ responses₀ first executions replies₀ count₀ at₀ awaiting stack registers saved responses replies count at =
+    ExecutingParts (executeWith committed ordered executed stacked awaiting₀ operations order stack₀ registers₀ saved₀ responses₀)
+    awaiting stack registers saved responses replies count at
 
 abbrev μ-loop : tie.MeasureT-loop
-μ-loop core undos awaiting₀ operations order stack₀ registers₀ saved₀ responses₀ committed ordered executions replies₀ count₀ at₀ awaiting stack registers saved responses replies count at =
+μ-loop committed ordered executed stacked undos awaiting₀ operations order stack₀ registers₀ saved₀ responses₀ first executions replies₀ count₀ at₀ awaiting stack registers saved responses replies count at =
     ordered - at
 
 -- ---- the places in the loop
@@ -29,15 +31,21 @@ executed c = c .before .before .before .before .before
 abbrev start : tie.In-loop Inv-loop μ-loop → tie.Start Inv-loop μ-loop
 start c = c .before .before .before .before
 
+-- what is lent
+abbrev lent : tie.Start Inv-loop μ-loop → ExecuteLent
+lent a =
+    executeNow (a .args .committed) (a .args .ordered) (a .args .executed) (a .args .stacked) (a .args .awaiting) (a .args .operations)
+    (a .args .order) (a .args .stack) (a .args .registers) (a .args .saved) (a .args .responses)
+
 -- ---- what is known there
 
 asked : (c : tie.In-loop Inv-loop μ-loop) → NextAsks (start c .args .order .now) (c .before .loop .at)
-asked c = execute-asks _ _ _ _ _ _ _ _ (c .before .loop .inv) (start c .pre .0) (c .loop-test .taken)
+asked c = execute-asks (lent (start c)) (c .before .loop .inv) (start c .pre .0) (c .loop-test .taken)
 
 next : (c : tie.After-put-on Inv-loop μ-loop)
     → let here = body (executed c) .before .loop in
     let a = start (body (executed c)) in
-    Next (a .args .core .committed) (here .awaiting) (a .args .operations .now) (a .args .order .now) (here .stack) (here .registers) (here .saved)
+    Next (a .args .committed) (here .awaiting) (a .args .operations .now) (a .args .order .now) (here .stack) (here .registers) (here .saved)
     (here .responses) (here .at) (c .put-on .last .1 .0) (c .put-on .last .1 .1 .0) (executed c .execute-due .last .0)
     (c .put-on .last .1 .1 .1 .0) (c .put-on .last .1 .1 .1 .1 .0) (c .put-on .result)
 next c =
@@ -53,7 +61,7 @@ room : (c : tie.Else1 Inv-loop μ-loop) → body (executed (c .before .before)) 
 room c =
     let on = c .before .before in
     let here = body (executed on) in
-    execute-room _ _ _ _ _ _ _ _ (here .before .loop .inv) (here .loop-test .taken) (next on) (start here .pre .0) (c .if1 .left)
+    execute-room (lent (start here)) (here .before .loop .inv) (here .loop-test .taken) (next on) (start here .pre .0) (c .if1 .left)
 
 -- ---- what the function needs
 
@@ -69,7 +77,7 @@ no-reply-requires c κs = search needs
 loop-holds : tie.Need-loop-holds Inv-loop μ-loop
 loop-holds c =
     let a = c .before .before in
-    execute-start _ _ _ _ _ _ _ _ (a .pre .0) (a .pre .1) _ (c .no-reply .ensures)
+    execute-start (lent a) (a .pre .0) (a .pre .1) _ (c .no-reply .ensures)
 
 mul-slot : tie.Need-mul-slot Inv-loop μ-loop
 mul-slot c = omega (arith, asked c)
@@ -108,7 +116,7 @@ loop-again : tie.Need-loop-again Inv-loop μ-loop
 loop-again c =
     let on = c .before .before in
     let here = body (executed on) in
-    execute-quiet _ _ _ _ _ _ _ _ (here .before .loop .inv) (here .loop-test .taken) (next on) (c .if1 .taken)
+    execute-quiet (lent (start here)) (here .before .loop .inv) (here .loop-test .taken) (next on) (c .if1 .taken)
 
 mul-replies : tie.Need-mul-replies Inv-loop μ-loop
 mul-replies c = omega (arith, room c)
@@ -126,10 +134,10 @@ loop-again-2 : tie.Need-loop-again-2 Inv-loop μ-loop
 loop-again-2 c =
     let on = c .before .before in
     let here = body (executed on) in
-    execute-replied _ _ _ _ _ _ _ _ (here .before .loop .inv) (here .loop-test .taken) (next on) (c .if1 .left)
+    execute-replied (lent (start here)) (here .before .loop .inv) (here .loop-test .taken) (next on) (c .if1 .left)
 
 returns : tie.Need-returns Inv-loop μ-loop
-returns c = execute-end _ _ _ _ _ _ _ _ (c .before .loop .inv) (c .loop-test .left) _ _ refl
+returns c = execute-end (lent (c .before .before .before .before)) (c .before .loop .inv) (c .loop-test .left) _ _ refl
 
 pub execute-all-spec : {M : Type 1} → statement M
 execute-all-spec =

@@ -2,18 +2,13 @@
 use Prim.Native.Nat.{ℕ, _-_}
 use mathlib.Core.Path.{_≡_}
 use mathlib.Core.Bool.{true}
-use mathlib.Core.List.{List}
 use lib.ListN.{length}
-use Rattle.counters.specs.declared.Counters.{Counters}
-use Rattle.counters.specs.Counted.{undosCounted, executionsCounted}
 use Rattle.creek.specs.Execution.{isIdle}
 use Rattle.creek.specs.History.{idled}
-use Rattle.replica.specs.declared.Core.{Core}
-use Rattle.due.specs.declared.DueResult.{DueResult}
 use Rattle.replica.specs.State.{State}
-use Rattle.replica.specs.internal.Cores.{withBoard}
 use Rattle.replica.specs.internal.Model.{model, Inv}
-use Rattle.steps.specs.Steps.{undoParts, executeParts}
+use Rattle.steps.specs.Lent.{UndoLent, undoing, ExecuteLent, executing, withUndos, withExecutions}
+use Rattle.due.specs.declared.DueSteps.{DueSteps}
 use Rattle.due.specs.Due.{DueOutcome, repliesOwed, padded, RunDue}
 
 -- the job from q on is the job from p on: as many due steps as are owed lead to one replica, with the same replies
@@ -39,31 +34,27 @@ pub record ExecutedAll (p : State) (undos : ℕ) (r : DueOutcome) : Type 0 where
   pub idle : isIdle (model (r .state) .book .execution) ≡ true
   pub invariant : Inv (r .state)
 
--- of every panel with these parts: what was to be rolled back is undone, with its steps counted
-pub record AllUndone (core : Core) (operations stack registers saved registers′ : List ℕ) : Type 0 where
-  pub back : (p : State) → Inv (undoParts p (p .counters) core operations stack registers saved)
-      → RolledBack (undoParts p (p .counters) core operations stack registers saved)
-      (undoParts p (undosCounted (p .counters) (core .stacked - core .executed)) (withBoard core (core .executed) (core .executed))
-      operations stack registers′ saved)
+-- of every panel with what is lent: what was to be rolled back is undone, with its steps counted
+pub record AllUndone (before after : UndoLent) : Type 0 where
+  pub back : (p : State) → Inv (undoing before p)
+      → RolledBack (undoing before p) (undoing after (withUndos (before .stacked - before .executed) p))
 
--- every due step done on a panel with these parts, with its steps counted
-abbrev pub ranParts : State → Counters → DueResult → (awaiting operations order stack registers saved responses : List ℕ) → DueOutcome
-ranParts p counters r awaiting operations order stack registers saved responses = record {
-  undos = r .due .undos;
-  executions = r .due .executions;
-  count = r .due .count;
-  replies = r .due .replies;
-  state = executeParts p (executionsCounted counters (r .due .executions)) (r .core) awaiting operations order stack registers saved responses;
+-- those steps, which led to that state
+abbrev pub ranTo : DueSteps → State → DueOutcome
+ranTo r q = record {
+  undos = r .undos;
+  executions = r .executions;
+  count = r .count;
+  replies = r .replies;
+  state = q;
 }
 
-pub record AllExecuted (core : Core) (undos : ℕ) (awaiting operations order stack registers saved responses : List ℕ)
-    (awaiting′ stack′ registers′ saved′ responses′ : List ℕ) (r : DueResult) : Type 0 where
-  pub all : (p : State) → Inv (executeParts p (p .counters) core awaiting operations order stack registers saved responses)
-      → ExecutedAll (executeParts p (p .counters) core awaiting operations order stack registers saved responses) undos
-      (ranParts p (p .counters) r awaiting′ operations order stack′ registers′ saved′ responses′)
+-- what was to do is executed, with its steps counted
+pub record AllExecuted (before : ExecuteLent) (undos : ℕ) (after : ExecuteLent) (r : DueSteps) : Type 0 where
+  pub all : (p : State) → Inv (executing before p)
+      → ExecutedAll (executing before p) undos (ranTo r (executing after (withExecutions (r .executions) p)))
 
-pub record DueKept (core : Core) (awaiting operations order stack registers saved responses : List ℕ)
-    (awaiting′ stack′ registers′ saved′ responses′ : List ℕ) (r : DueResult) : Type 0 where
-  pub kept : (p : State) → Inv (executeParts p (p .counters) core awaiting operations order stack registers saved responses)
-      → RunDue (executeParts p (p .counters) core awaiting operations order stack registers saved responses)
-      (ranParts p (undosCounted (p .counters) (r .due .undos)) r awaiting′ operations order stack′ registers′ saved′ responses′)
+-- every due step is done, with its steps counted
+pub record DueKept (before after : ExecuteLent) (r : DueSteps) : Type 0 where
+  pub kept : (p : State) → Inv (executing before p)
+      → RunDue (executing before p) (ranTo r (executing after (withExecutions (r .executions) (withUndos (r .undos) p))))

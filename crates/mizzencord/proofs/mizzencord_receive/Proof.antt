@@ -2,8 +2,6 @@
 use mathlib.Core.Path.{refl}
 use Prim.Native.Nat.{ℕ}
 use mathlib.Core.List.{List, [], _∷_, _++_}
-use mathlib.Core.Option.{some}
-use lib.ListN.{set}
 use mir.Syntax.{w8, w64, tyInt, tyRef, imm, named}
 use mir.Val.{vint}
 use base.Logic.{id⊢}
@@ -14,32 +12,35 @@ use sound.WpLaws.{fmOf}
 use denote.Builtin.{SliceRefOf}
 use denote.Exit.{yes}
 use denote.Plain.{UInt, uint-tells}
-use denote.Ref.{RefT, now}
+use denote.Ref.{now}
 use denote.Signature.{plain}
 use denote.Slice.{ShrSlice, sliceTy, slice-vals, shr-slice-tells, shr-slice-lawful}
 use denote.Triple.Spec.{tripleOf}
 use denote.Triple.Table.{entered, cited}
 use Rattle.wire.specs.Reader.{readAt}
-use Rattle.intake.specs.declared.ReceiveResult.{ReceiveResult}
 use Rattle.intake.specs.internal.Parts.{TakeAsks, ReceiveKept}
+use Rattle.intake.proofs.Receipt as X
+use Rattle.intake.proofs.Receipt.Laws as X′
 use Rattle.intake.proofs.receive as callee
 use Rattle.intake.proofs.receive.Symbol as callee-def
 use Rattle.intake.proofs.receive.Met as callee-thm
-use Rattle.mizzencord.specs.declared.Panel.{Panel}
 use Rattle.replica.specs.internal.Model.{Inv}
 use Rattle.mizzencord.specs.Memory.{memory}
-use Rattle.lending.proofs.Values.{number}
+use Rattle.mizzencord.proofs.Panel as T
+use Rattle.mizzencord.proofs.Panel.Laws as T′
+use Rattle.lending.proofs.Values.{Value, number, struct}
 use Rattle.lending.proofs.Locals.{blocks}
-use Rattle.lending.proofs.Passing.{Pass, value, Spelling, Ends}
+use Rattle.lending.proofs.Reading.{Read}
+use Rattle.lending.proofs.Passing.{Pass, value}
 use Rattle.lending.proofs.Ahead.{Ahead}
 use Rattle.lending.proofs.Choosing.{Choice, stays, is-read-first, is-read, is-changed}
 use Rattle.lending.proofs.Dropped.{Further}
 use Rattle.mizzencord.proofs.PanelParts.{with-value}
-use Rattle.mizzencord.proofs.PanelReads.{core-read, the-core}
-use Rattle.mizzencord.proofs.Outcomes.{outcome-val, received}
-use Rattle.mizzencord.proofs.ChangingCall.{done-local, further-locals, part-locals, calling, taken, all-locals}
-use Rattle.mizzencord.proofs.ChangingCall.{changes-panel}
-use Rattle.mizzencord.proofs.LentParts.{core-and, spelling, left-as, parts-loan, lends-behind}
+use Rattle.mizzencord.proofs.PanelReads.{panels-read, own-read}
+use Rattle.mizzencord.proofs.PanelWalk.{result-local}
+use Rattle.mizzencord.proofs.ChangingCall.{further-locals, part-locals, calling, taken, all-locals, changes-panel}
+use Rattle.mizzencord.proofs.LentParts.{passes, spelled, left, loan, had, lends-behind}
+use Rattle.mizzencord.proofs.LentRecords.{reception}
 use Rattle.mizzencord.proofs.mizzencord_receive.Key.{name as #mizzencord·mizzencord-receive}
 use Rattle.mizzencord.proofs.mizzencord_receive as f
 use Rattle.mizzencord.proofs.mizzencord_receive.Statement as stated
@@ -57,28 +58,22 @@ bytes-and-place = record {
   last = λ κs a. (tt, (tt, tt));
 }
 
--- what becomes of each field, and what the callee is passed behind the bytes
+abbrev receipt : Value
+receipt = struct X.the-type X′.the-laws X′.the-plain
+
+-- the numbers that are read, and what becomes of each field
+abbrev numbers : List (Read T.the-row T′.mir)
+numbers = panels-read ∷ own-read ∷ []
+
 abbrev lent : List Choice
-lent = stays ∷ stays ∷ is-changed ∷ is-changed ∷ is-changed ∷ is-changed ∷ is-changed ∷ is-changed ∷ is-changed ∷ is-read-first ∷ stays ∷ stays
-    ∷ is-read ∷ []
+lent = is-changed ∷ is-changed ∷ is-changed ∷ stays ∷ is-changed ∷ stays ∷ stays ∷ stays ∷ stays ∷ stays ∷ is-changed ∷ is-changed ∷ is-changed ∷ is-changed ∷ is-changed ∷ is-changed ∷ is-changed ∷ is-read-first ∷ stays ∷ stays ∷ is-read ∷ []
 
+-- what the callee is passed behind the bytes
 abbrev ps : List Pass
-ps = value (UInt w64) ∷ core-and lent []
+ps = value (UInt w64) ∷ passes lent [] numbers
 
-abbrev operand-locals : List ℕ
-operand-locals = further-locals bytes-and-place ++ part-locals bytes-and-place the-core lent
-
-module _ (h : Panel) (bytes : RefT (List ℕ)) (at : ℕ) where
-  abbrev vs : Spelling ps
-  vs = (vint w64 at ∷ [], spelling lent [] h tt)
-
-  abbrev Asks : Type 0
-  Asks = TakeAsks (h .core) (h .held) (h .known) (h .awaiting) (h .clocks) (h .operations) (h .contexts) (h .order) (h .stack) (h .responses)
-
-  abbrev Promised : ReceiveResult → Ends ps → Type 0
-  Promised r zs = ReceiveKept (h .core) (h .held) (h .known) (h .awaiting) (h .clocks) (h .operations) (h .contexts) (h .order) (h .stack)
-      (h .responses) (readAt (now bytes) at) (zs .1 .1 .0) (zs .1 .1 .1 .0) (zs .1 .1 .1 .1 .0) (zs .1 .1 .1 .1 .1 .0) (zs .1 .1 .1 .1 .1 .1 .0)
-      (zs .1 .1 .1 .1 .1 .1 .1 .0) (zs .1 .1 .1 .1 .1 .1 .1 .1 .0) r
+abbrev operands : List ℕ
+operands = further-locals bytes-and-place ++ part-locals bytes-and-place [] numbers lent
 
 pub mizzencord-receive-spec : {M : Type 1} → stated.statement M
 unfolding code.routine tablesOf
@@ -89,12 +84,11 @@ mizzencord-receive-spec 𝓤 H 𝓜 𝓖 𝓡 =
     callee-def.routine code.calls-intake·receive (callee-thm.met 𝓤 H 𝓜 𝓖 𝓡) in
     entered 𝓤 H (tripleOf 𝓤 H (𝓖 .A) f.signature (f.spec 𝓤 H (𝓖 .A) (𝓜 .mem) (𝓡 .run))) (tables 𝓤 H 𝓜 𝓡 code.env .C)
     (tables 𝓤 H 𝓜 𝓡 code.env .Λ) #mizzencord·mizzencord-receive code.function (code.unfolded 𝓤 H 𝓜 𝓡)
-    (changes-panel bytes-and-place the-core received lent [] (calling bytes-and-place callee-def.name operand-locals) 𝓤 H (𝓖 .A) W
+    (changes-panel bytes-and-place [] numbers receipt lent [] (calling callee-def.name operands result-local) 𝓤 H (𝓖 .A) W
     (f.clauses 𝓤 H (𝓖 .A) (𝓜 .mem) (𝓡 .run)) (λ h. Inv (memory h)) 𝓣 (λ κs a g. id⊢ 𝓤 _) (λ κ κs q qs b o γ h a g ok are.
-    let us = taken bytes-and-place the-core received lent [] κ κs b o h a in
+    let vs = taken bytes-and-place [] numbers receipt lent [] κ κs b o h a in
     let bytes : Ahead = record { type = ShrSlice (named 1) (κs .0) (UInt w8); life = κs .0; share = qs .0; here = a .0; machine = slice-vals (a .0) } in
     record {
-      after = λ r. set us (done-local bytes-and-place) (some (outcome-val received r));
       typed = λ bs. (
         (tt, tt),
         (
@@ -102,17 +96,17 @@ mizzencord-receive-spec 𝓤 H 𝓜 𝓖 𝓡 =
           (number w64 .typed 𝓤 H (𝓖 .A) W (a .1 .0) (are .1 .0), tt),
         ),
       );
-      fields-read = λ bs. (((tt, refl), (tt, refl)), tt);
-      fields-lent = λ bs. (search, (search, (search, (search, (search, (search, (search, (search, (search, tt)))))))));
-      outcome-held = λ bs r. ((tt, refl), refl);
-      panel-held = λ bs r. (tt, refl);
-      filled = λ bs r. tt;
+      fields-read = λ bs. (((tt, refl), (tt, refl)), (((tt, refl), (tt, refl)), tt));
+      fields-lent = λ bs. (search, (search, (search, (search, (search, (search, (search, (search, (search, (search, (search, (search, (search, tt)))))))))))));
       runs-middle = λ bs told k.
-          lends-behind ! (fmOf 𝓤 H (W .laws) 𝓣) (blocks 𝓤 H (all-locals bytes-and-place the-core received lent []) bs) us operand-locals
-          (done-local bytes-and-place) b o received bytes ps (vs h (a .0) (a .1 .0)) (fact 𝓤 (Asks h (a .0) (a .1 .0)))
-          (Promised h (a .0) (a .1 .0)) (with-value 𝓤 H (𝓖 .A) W b o _ (a .1 .0) (parts-loan lent [] h 𝓤 H (𝓖 .A) W b o tt))
-          (number w64 .makes 𝓤 H (𝓖 .A) W (a .1 .0) _ (are .1 .0), (core-read .value .makes 𝓤 H (𝓖 .A) W (h .core) _ (told .0), tt))
+          let after = left lent [] h numbers in
+          lends-behind ! (fmOf 𝓤 H (W .laws) 𝓣) (blocks 𝓤 H (all-locals bytes-and-place [] numbers receipt lent []) bs) vs operands
+          result-local b o receipt bytes ps (vint w64 (a .1 .0) ∷ [], spelled lent [] h numbers tt)
+          (fact 𝓤 (TakeAsks (h .panels) (h .own) (reception h)))
+          (λ r zs. ReceiveKept (h .panels) (h .own) (reception h) (readAt (now (a .0)) (a .1 .0)) (reception (after (zs .1))) r)
+          (with-value 𝓤 H (𝓖 .A) W b o _ (a .1 .0) (loan lent [] h 𝓤 H (𝓖 .A) W b o tt numbers))
+          (number w64 .makes 𝓤 H (𝓖 .A) W (a .1 .0) _ (are .1 .0), had lent [] h 𝓤 H (𝓖 .A) W b o tt numbers tt told tt)
           (factI 𝓤 _ _ (record { panel = memory h; invariant = ok })) (λ κ ns. known _)
-          ((tt, refl), ((tt, refl), ((tt, refl), ((tt, refl), ((tt, refl), ((tt, refl), ((tt, refl), ((tt, refl), ((tt, refl), ((tt, refl), ((tt, refl), ((tt, refl), tt)))))))))))) tt refl
-          (λ r zs is kept. k r (left-as lent [] h (zs .1)) is (factI 𝓤 _ _ (kept .kept (memory h) ok)));
+          ((tt, refl), ((tt, refl), ((tt, refl), ((tt, refl), ((tt, refl), ((tt, refl), ((tt, refl), ((tt, refl), ((tt, refl), ((tt, refl), ((tt, refl), ((tt, refl), ((tt, refl), ((tt, refl), ((tt, refl), ((tt, refl), ((tt, refl), tt))))))))))))))))) tt refl
+          (λ r zs is kept. k r (after (zs .1)) vs is (factI 𝓤 _ _ (kept .kept (memory h) ok)) tt);
     }))

@@ -34,6 +34,20 @@ firstCore panels own = record {
   commits = 0;
 }
 
+-- with so many in the order
+abbrev pub withOrdering : Core → ℕ → Core
+withOrdering core ordered = record {
+  panels = core .panels;
+  own = core .own;
+  events = core .events;
+  clock = core .clock;
+  committed = core .committed;
+  ordered = ordered;
+  executed = core .executed;
+  stacked = core .stacked;
+  commits = core .commits;
+}
+
 -- with those counts of the executed list and of the board
 abbrev pub withBoard : Core → ℕ → ℕ → Core
 withBoard core executed stacked = record {

@@ -3,6 +3,7 @@ use Prim.Native.Nat.{ℕ}
 use mathlib.Core.Path.{_≡_}
 use mathlib.Core.List.{List}
 use Rattle.numbers.specs.declared.PanelNo.{PanelNo}
+use Rattle.numbers.specs.Numbers.{clockReading}
 use Rattle.creek.specs.declared.Answer.{Answer}
 use Rattle.creek.specs.Book.{Call}
 use Rattle.creek.specs.Calls.{Replica}
@@ -12,8 +13,10 @@ use Rattle.replica.specs.declared.Core.{Core}
 use Rattle.replica.specs.State.{State, packed}
 use Rattle.replica.specs.declared.RegisterValue.{RegisterValue}
 use Rattle.replica.specs.declared.PlacedRequest.{PlacedRequest}
+use Rattle.replica.specs.internal.Cores.{coreIn, withOrdering}
 use Rattle.replica.specs.internal.Model.{model, Inv}
 use Rattle.replica.specs.declared.FreshResult.{FreshResult}
+use Rattle.replica.specs.declared.Opening.{Opening}
 use Rattle.replica.specs.State.{packed}
 use Rattle.replica.specs.Promises.{Fresh, Kept}
 use Rattle.replica.specs.Shown.{RegisterShown, PlaceShown}
@@ -65,41 +68,84 @@ pub record FreshKept (panels own : ℕ) (held known awaiting clocks operations c
     state = packed (r .core) (r .counters) held known awaiting clocks operations contexts order stack registers saved responses;
   })
 
+-- fresh left those numbers, and returned r
+abbrev pub openedBy : (committed ordered executed stacked commits clock panels events : ℕ) → Opening → FreshResult
+openedBy committed ordered executed stacked commits clock panels events r = record {
+  core = record {
+    panels = panels;
+    own = r .own;
+    events = events;
+    clock = clockReading clock;
+    committed = committed;
+    ordered = ordered;
+    executed = executed;
+    stacked = stacked;
+    commits = commits;
+  };
+  counters = r .counters;
+  refusal = r .refusal;
+}
+
 -- ---- the showing calls
 
--- p with that core and those counters
-abbrev pub coreParts : State → Core → Counters → State
-coreParts p core counters =
-    packed core counters (p .held .words) (p .known .words) (p .awaiting .words) (p .clocks) (p .operations) (p .contexts) (p .order)
-    (p .stack) (p .registers) (p .saved) (p .responses)
+-- p with those counts, settlements and counters
+abbrev pub withNumbers : (committed ordered executed stacked commits : ℕ) → Counters → State → State
+withNumbers committed ordered executed stacked commits counters p = record {
+  panels = p .panels;
+  own = p .own;
+  events = p .events;
+  clock = p .clock;
+  committed = committed;
+  ordered = ordered;
+  executed = executed;
+  stacked = stacked;
+  commits = commits;
+  counters = counters;
+  held = p .held;
+  known = p .known;
+  awaiting = p .awaiting;
+  clocks = p .clocks;
+  operations = p .operations;
+  contexts = p .contexts;
+  order = p .order;
+  stack = p .stack;
+  registers = p .registers;
+  saved = p .saved;
+  responses = p .responses;
+}
 
--- that is the core of a panel that came from fresh and the calls
-pub record CoreAsks (core : Core) : Type 0 where
-  pub panel : State
-  pub invariant : Inv (coreParts panel core (panel .counters))
+abbrev pub withOrdered : ℕ → State → State
+withOrdered ordered p = withNumbers (p .committed) ordered (p .executed) (p .stacked) (p .commits) (p .counters) p
 
--- n is what is shown of every panel with that core
-pub record CoreShows (core : Core) (show : Replica → ℕ) (n : ℕ) : Type 0 where
-  pub shown : (p : State) → Inv (coreParts p core (p .counters)) → n ≡ show (model (coreParts p core (p .counters)))
+abbrev pub withCommitted : ℕ → State → State
+withCommitted committed p = withNumbers committed (p .ordered) (p .executed) (p .stacked) (p .commits) (p .counters) p
 
--- n is what is shown of every panel with those counters
-pub record CountersShow (counters : Counters) (show : Replica → ℕ) (n : ℕ) : Type 0 where
-  pub shown : (p : State) (core : Core) → n ≡ show (model (coreParts p core counters))
+abbrev pub withCommits : ℕ → State → State
+withCommits commits p = withNumbers (p .committed) (p .ordered) (p .executed) (p .stacked) commits (p .counters) p
+
+abbrev pub withCounters : Counters → State → State
+withCounters counters p = withNumbers (p .committed) (p .ordered) (p .executed) (p .stacked) (p .commits) counters p
+
+abbrev pub withOwed : ℕ → ℕ → ℕ → State → State
+withOwed ordered executed stacked p = withNumbers (p .committed) ordered executed stacked (p .commits) (p .counters) p
+
+-- n is what is shown of every panel with those parts
+pub record Shows (parts : State → State) (show : Replica → ℕ) (n : ℕ) : Type 0 where
+  pub shown : (p : State) → Inv (parts p) → n ≡ show (model (parts p))
 
 -- r is what is shown of register k of every panel with those registers
 pub record RegisterKept (registers : List ℕ) (k : ℕ) (r : RegisterValue) : Type 0 where
   pub shown : (p : State) → Inv p → p .registers ≡ registers → RegisterShown p k r
 
--- p with that core and the parts that the request at a place is read from
-abbrev pub placeParts : State → Core → (clocks operations contexts order : List ℕ) → State
-placeParts p core clocks operations contexts order =
-    packed core (p .counters) (p .held .words) (p .known .words) (p .awaiting .words) clocks operations contexts order (p .stack)
-    (p .registers) (p .saved) (p .responses)
+-- a panel with so many in the order, and the parts that the request at a place is read from
+abbrev pub placeParts : ℕ → (clocks operations contexts order : List ℕ) → State → State
+placeParts ordered clocks operations contexts order p =
+    packed (withOrdering (coreIn p) ordered) (p .counters) (p .held .words) (p .known .words) (p .awaiting .words) clocks operations contexts order
+    (p .stack) (p .registers) (p .saved) (p .responses)
 
-pub record PlaceAsks (core : Core) (clocks operations contexts order : List ℕ) : Type 0 where
-  pub panel : State
-  pub invariant : Inv (placeParts panel core clocks operations contexts order)
+abbrev pub PlaceAsks : ℕ → (clocks operations contexts order : List ℕ) → Type 0
+PlaceAsks ordered clocks operations contexts order = Asks (placeParts ordered clocks operations contexts order)
 
-pub record PlaceKept (core : Core) (clocks operations contexts order : List ℕ) (place : ℕ) (r : PlacedRequest) : Type 0 where
-  pub shown : (p : State) → Inv (placeParts p core clocks operations contexts order)
-      → PlaceShown (placeParts p core clocks operations contexts order) place r
+pub record PlaceKept (ordered : ℕ) (clocks operations contexts order : List ℕ) (place : ℕ) (r : PlacedRequest) : Type 0 where
+  pub shown : (p : State) → Inv (placeParts ordered clocks operations contexts order p)
+      → PlaceShown (placeParts ordered clocks operations contexts order p) place r

@@ -118,15 +118,14 @@ returns c =
     let first = after-put-totals c .put-totals .ensures in
     let v = after-executions-from-after-slice-known3 c in
     let r = v .before .before in
-    let core = start r .args .core in
     record {
       written = λ p inv.
           let q = given (start r) p in
           let are = lists-are r p inv in
           let unsettled : r .requests .result - r .before .committed .result ≡ length (model q .book .plan .tentative) =
           omega (arith, are .0, are .1) in
-          rw (closing-is (model q) _ _ _ _ _ (are .0) unsettled (v .before .undos .ensures .shown q core)
-          (v .executions .ensures .shown q core) (all-registers-are q inv))
+          rw (closing-is (model q) _ _ _ _ _ (are .0) unsettled (v .before .undos .ensures .shown q inv)
+          (v .executions .ensures .shown q inv) (all-registers-are q inv))
           (then first second);
       few = omega (arith, first .place, second .place, totals-fit v, registers-fit (r .before .before));
     }

@@ -12,7 +12,7 @@ use Rattle.sheet.proofs.put_shop.Tie as tie
 abbrev else-1 : tie.After-put-opened-arg12 → tie.Else1
 else-1 c = c .before .before .before .before .before .before .before .before .before .before .before .before
 
-abbrev start : tie.After-fresh → tie.Start
+abbrev start : tie.After-fresh-with-core → tie.Start
 start c = c .before .before .before .before .before .before .before .before .before .before .before .before .before .before .before .before
 
 shared-slice-read-panels : tie.Need-shared-slice-read-panels
@@ -21,8 +21,8 @@ shared-slice-read-panels c = search needs
 shared-slice-read-own : tie.Need-shared-slice-read-own
 shared-slice-read-own c = search needs
 
-fresh-requires : tie.Need-fresh-requires
-fresh-requires c κs = search needs
+fresh-with-core-requires : tie.Need-fresh-with-core-requires
+fresh-with-core-requires c κs = search needs
 
 -- ---- a bad shop
 
@@ -42,7 +42,7 @@ returns c =
     let w = c .before .before .put-refused .ensures in
     let refused = c .before .before .before .before in
     let opened = refused .before .before in
-    let bad = fresh-bad _ _ _ (opened .fresh .ensures .opened .refusal) (refused .if1 .taken) in
+    let bad = fresh-bad _ _ _ (opened .fresh-with-core .ensures .opened .refusal) (refused .if1 .taken) in
     record {
       written = rw (printout-bad _ (start opened .pre .0) bad) w;
       few = omega (arith, w .place, refused-short refusal.badShop (omega arith));
@@ -55,7 +55,7 @@ put-opened-requires c κs =
     let accepted = else-1 c in
     let opened = accepted .before .before in
     let pre = start opened .pre in
-    let f = opened .fresh .ensures .opened in (
+    let f = opened .fresh-with-core .ensures .opened in (
       record {
         long = pre .0;
         good = fresh-good _ _ _ (f .refusal) (accepted .if1 .left);
@@ -76,7 +76,7 @@ put-shop-spec =
     (tie.spec
     shared-slice-read-panels
     shared-slice-read-own
-    fresh-requires
+    fresh-with-core-requires
     cast-put-refused
     put-refused-requires
     same-length

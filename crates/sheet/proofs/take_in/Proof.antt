@@ -13,7 +13,7 @@ use Rattle.sheet.proofs.take_in.Tie as tie
 abbrev start-from-after-take-arg9 : tie.After-take-with-core-arg9 → tie.Start
 start-from-after-take-arg9 c = c .before .before .before .before .before .before .before .before .before
 
-abbrev after-take : tie.After-run-due-arg7 → tie.After-take-with-core
+abbrev after-take : tie.After-run-due-with-core-arg7 → tie.After-take-with-core
 after-take c = c .before .before .before .before .before .before .before .before
 
 -- the panel at the entry
@@ -26,7 +26,7 @@ entered a =
 abbrev start : tie.After-take-with-core → tie.Start
 start c = c .before .before .before .before .before .before .before .before .before .before
 
-abbrev called : tie.After-run-due → tie.After-take-with-core
+abbrev called : tie.After-run-due-with-core → tie.After-take-with-core
 called c = c .before .before .before .before .before .before .before .before .before
 
 take-with-core-requires : tie.Need-take-with-core-requires
@@ -34,8 +34,8 @@ take-with-core-requires c κs =
     let a = start-from-after-take-arg9 c in
     record { panel = entered a; invariant = a .pre }
 
-run-due-requires : tie.Need-run-due-requires
-run-due-requires c κs =
+run-due-with-core-requires : tie.Need-run-due-with-core-requires
+run-due-with-core-requires c κs =
     let call = after-take c in
     let kept = call .take-with-core .ensures .kept (entered (start call)) (start call .pre) in
     record { panel = stateAfter kept; invariant = kept .invariant }
@@ -44,21 +44,21 @@ undos-counted-requires : tie.Need-undos-counted-requires
 undos-counted-requires c κs =
     let call = called (c .before) in
     let kept = call .take-with-core .ensures .kept (entered (start call)) (start call .pre) in
-    let due = c .before .run-due .ensures .kept (stateAfter kept) (kept .invariant) in
+    let due = c .before .run-due-with-core .ensures .kept (stateAfter kept) (kept .invariant) in
     undos-fit _ (due .invariant)
 
 executions-counted-requires : tie.Need-executions-counted-requires
 executions-counted-requires c κs =
     let call = called (c .before .before) in
     let kept = call .take-with-core .ensures .kept (entered (start call)) (start call .pre) in
-    let due = c .before .before .run-due .ensures .kept (stateAfter kept) (kept .invariant) in
+    let due = c .before .before .run-due-with-core .ensures .kept (stateAfter kept) (kept .invariant) in
     omega (arith, executions-fit _ (due .invariant), ap (λ (k : Counters). k .executions) (c .undos-counted .ensures))
 
 returns : tie.Need-returns
 returns c =
     let call = called (c .before .before .before) in
     let kept = call .take-with-core .ensures .kept (entered (start call)) (start call .pre) in
-    let due = c .before .before .before .run-due .ensures .kept (stateAfter kept) (kept .invariant) in
+    let due = c .before .before .before .run-due-with-core .ensures .kept (stateAfter kept) (kept .invariant) in
     rw (c .executions-counted .ensures, c .before .undos-counted .ensures) (taken-in _ _ _ kept _ due refl _ refl refl)
 
 pub take-in-spec : {M : Type 1} → statement M
@@ -66,7 +66,7 @@ take-in-spec =
     tie.close
     (tie.spec
     take-with-core-requires
-    run-due-requires
+    run-due-with-core-requires
     undos-counted-requires
     executions-counted-requires
     returns)

@@ -2,6 +2,7 @@
 use native.Mathlib.Omega.{arith}
 use Prim.Native.Nat.{_<_}
 use mathlib.Core.Path.{_≡_}
+use Rattle.steps.specs.Lent.{ExecuteLent, executeNow}
 use Rattle.steps.proofs.StepParts.{execute-first-undo, execute-none, NextAsks, next-by, execute-next, execute-done}
 use borrow.Author.Needs.{needs}
 use Rattle.steps.proofs.execute.Statement.{statement}
@@ -9,37 +10,42 @@ use Rattle.steps.proofs.execute.Tie as tie
 
 -- ---- earlier places of the function, from later ones
 
-abbrev after-execute : tie.After-put-on → tie.After-execute
-after-execute c = c .before .before .before .before .before
+abbrev start : tie.Else1 → tie.Start
+start c = c .before .before .before
 
 abbrev tested : tie.After-execute → tie.Else2
 tested c = c .before .before .before .before .before .before .before .before
 
-abbrev start : tie.Else2 → tie.Start
-start c = c .before .before .before .before
+-- what is lent
+abbrev lent : tie.Start → ExecuteLent
+lent a =
+    executeNow (a .args .committed) (a .args .ordered) (a .args .executed) (a .args .stacked) (a .args .awaiting) (a .args .operations)
+    (a .args .order) (a .args .stack) (a .args .registers) (a .args .saved) (a .args .responses)
 
-idle : (c : tie.Else1) → c .before .before .args .core .executed ≡ c .before .before .args .core .stacked
+idle : (c : tie.Else1) → lent (start c) .executed ≡ lent (start c) .stacked
 idle c = c .if1 .left
 
-more : (c : tie.Else2) → start c .args .core .executed < start c .args .core .ordered
-more c = omega (arith, start c .pre .invariant .counts, c .if2 .left)
+more : (c : tie.Else2) → let l = lent (start (c .before)) in l .executed < l .ordered
+more c = omega (arith, start (c .before) .pre .invariant .counts, c .if2 .left)
 
-asked : (c : tie.Else2) → NextAsks (start c .args .order .now) (start c .args .core .executed)
-asked c = execute-next _ _ _ _ _ _ _ _ (idle (c .before .before)) (start c .pre .panel) (start c .pre .invariant) (more c)
+asked : (c : tie.Else2) → let l = lent (start (c .before)) in NextAsks (l .order) (l .executed)
+asked c = let a = start (c .before) in execute-next (lent a) (idle (c .before)) (a .pre) (more c)
 
-refused-requires : tie.Need-refused-requires
-refused-requires c κs = search needs
+-- ---- what the function needs
+
+refusing-requires : tie.Need-refusing-requires
+refusing-requires c κs = search needs
 
 returns : tie.Need-returns
-returns c =
-    let a = c .before .before .before in
-    execute-first-undo _ _ _ _ _ _ _ _ (a .pre .panel) (a .pre .invariant) (c .before .if1 .taken) _ (c .refused .ensures)
+returns c = execute-first-undo (lent (c .before .before .before .before)) (c .before .if1 .taken) _ (c .refusing .ensures)
 
-refused-requires-2 : tie.Need-refused-requires-2
-refused-requires-2 c κs = search needs
+refusing-requires-2 : tie.Need-refusing-requires-2
+refusing-requires-2 c κs = search needs
 
 returns-2 : tie.Need-returns-2
-returns-2 c = execute-none _ _ _ _ _ _ _ _ (idle (c .before .before .before)) (c .before .if2 .taken) _ (c .refused2 .ensures)
+returns-2 c =
+    let else = c .before .before in
+    execute-none (lent (start else)) (idle else) (c .before .if2 .taken) _ (c .refusing2 .ensures)
 
 mul-slot : tie.Need-mul-slot
 mul-slot c = search needs
@@ -65,38 +71,31 @@ saved-word-requires c κs = search needs
 execute-requires : tie.Need-execute-requires
 execute-requires c κs = search needs
 
+add-more : tie.Need-add-more
+add-more c = search needs
+
 put-on-requires : tie.Need-put-on-requires
 put-on-requires c κs = asked (tested (c .before .before .before .before)) .place
 
-add-after : tie.Need-add-after
-add-after c = omega (arith, asked (tested (after-execute c)))
-
-add-after-2 : tie.Need-add-after-2
-add-after-2 c = omega (arith, asked (tested (after-execute c)))
-
-reply-requires : tie.Need-reply-requires
-reply-requires c κs = search needs
-
 returns-3 : tie.Need-returns-3
 returns-3 c =
-    let on = c .before in
-    let done = after-execute on in
+    let done = c .before .before .before .before .before in
     let kept = done .before .before in
     let saved = kept .before in
     let taken = saved .before .before in
     let read = taken .before in
-    let else = read .before .before in
-    execute-done _ _ _ _ _ _ _ _ (idle (else .before .before)) (more else)
+    let else = tested done in
+    execute-done (lent (start (else .before))) (idle (else .before)) (more else)
     (next-by (read .asked-at .ensures) (taken .operation .ensures) (saved .save .ensures) (kept .saved-word .ensures)
-    (done .execute .ensures) (on .put-on .ensures)) _ (c .reply .ensures)
+    (done .execute .ensures) (c .put-on .ensures))
 
 pub execute-spec : {M : Type 1} → statement M
 execute-spec =
     tie.close
     (tie.spec
-    refused-requires
+    refusing-requires
     returns
-    refused-requires-2
+    refusing-requires-2
     returns-2
     mul-slot
     element-copy-out-slot
@@ -106,8 +105,6 @@ execute-spec =
     save-requires
     saved-word-requires
     execute-requires
+    add-more
     put-on-requires
-    add-after
-    add-after-2
-    reply-requires
     returns-3)

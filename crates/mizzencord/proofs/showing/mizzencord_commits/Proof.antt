@@ -1,4 +1,4 @@
--- `mizzencord::showing::mizzencord_commits` meets its contract: its MIR is that of a function that shows a number of a lent panel's core.
+-- `mizzencord::showing::mizzencord_commits` meets its contract: its MIR is that of a function that shows a number of a lent panel.
 use mir.Syntax.{w32}
 use base.Logic.{emp, id⊢}
 use contract.Monad.{factI}
@@ -6,12 +6,12 @@ use contract.Running.{givenOf, tables, tablesOf}
 use denote.Triple.Spec.{tripleOf}
 use denote.Triple.Table.{entered, cited}
 use Rattle.creek.specs.Showing.{commitsShown}
-use Rattle.replica.specs.internal.Parts.{CoreShows}
+use Rattle.replica.specs.internal.Parts.{Shows, withCommits}
 use Rattle.replica.proofs.showing.commits as callee
 use Rattle.replica.proofs.showing.commits.Symbol as callee-def
 use Rattle.replica.proofs.showing.commits.Met as callee-thm
 use Rattle.mizzencord.specs.Memory.{memory}
-use Rattle.mizzencord.proofs.PanelReads.{core-read}
+use Rattle.mizzencord.proofs.PanelReads.{commits-read}
 use Rattle.mizzencord.proofs.ShownNumber.{shows-number}
 use Rattle.mizzencord.proofs.showing.mizzencord_commits.Key.{name as #mizzencord·showing·mizzencord-commits}
 use Rattle.mizzencord.proofs.showing.mizzencord_commits as f
@@ -25,7 +25,7 @@ mizzencord-commits-spec 𝓤 H 𝓜 𝓖 𝓡 =
     callee-def.routine code.calls-replica·showing·commits (callee-thm.met 𝓤 H 𝓜 𝓖 𝓡) in
     entered 𝓤 H (tripleOf 𝓤 H (𝓖 .A) f.signature (f.spec 𝓤 H (𝓖 .A) (𝓜 .mem) (𝓡 .run))) (tables 𝓤 H 𝓜 𝓡 code.env .C)
     (tables 𝓤 H 𝓜 𝓡 code.env .Λ) #mizzencord·showing·mizzencord-commits code.function (code.unfolded 𝓤 H 𝓜 𝓡)
-    (shows-number 𝓤 H (𝓖 .A) (givenOf 𝓤 H 𝓜 𝓖) core-read w32
-    (f.clauses 𝓤 H (𝓖 .A) (𝓜 .mem) (𝓡 .run)) (λ c. emp 𝓤) (λ c. CoreShows c commitsShown)
+    (shows-number 𝓤 H (𝓖 .A) (givenOf 𝓤 H 𝓜 𝓖) commits-read w32
+    (f.clauses 𝓤 H (𝓖 .A) (𝓜 .mem) (𝓡 .run)) (λ c. emp 𝓤) (λ n. Shows (withCommits n) commitsShown)
     (tablesOf 𝓤 H 𝓜 (tables 𝓤 H 𝓜 𝓡 code.env)) callee-def.name (λ κs a z. id⊢ 𝓤 _) (λ h ok. id⊢ 𝓤 _) (λ b o h κ. known _)
     (λ κ q b o γ h z ok n shows. factI 𝓤 _ _ (shows .shown (memory h) ok)))

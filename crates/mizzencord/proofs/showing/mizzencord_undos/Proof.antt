@@ -6,7 +6,7 @@ use contract.Running.{givenOf, tables, tablesOf}
 use denote.Triple.Spec.{tripleOf}
 use denote.Triple.Table.{entered, cited}
 use Rattle.creek.specs.Showing.{undosShown}
-use Rattle.replica.specs.internal.Parts.{CountersShow}
+use Rattle.replica.specs.internal.Parts.{Shows, withCounters}
 use Rattle.replica.proofs.showing.undos as callee
 use Rattle.replica.proofs.showing.undos.Symbol as callee-def
 use Rattle.replica.proofs.showing.undos.Met as callee-thm
@@ -26,6 +26,6 @@ mizzencord-undos-spec 𝓤 H 𝓜 𝓖 𝓡 =
     entered 𝓤 H (tripleOf 𝓤 H (𝓖 .A) f.signature (f.spec 𝓤 H (𝓖 .A) (𝓜 .mem) (𝓡 .run))) (tables 𝓤 H 𝓜 𝓡 code.env .C)
     (tables 𝓤 H 𝓜 𝓡 code.env .Λ) #mizzencord·showing·mizzencord-undos code.function (code.unfolded 𝓤 H 𝓜 𝓡)
     (shows-number 𝓤 H (𝓖 .A) (givenOf 𝓤 H 𝓜 𝓖) counters-read w32
-    (f.clauses 𝓤 H (𝓖 .A) (𝓜 .mem) (𝓡 .run)) (λ c. emp 𝓤) (λ c. CountersShow c undosShown)
+    (f.clauses 𝓤 H (𝓖 .A) (𝓜 .mem) (𝓡 .run)) (λ c. emp 𝓤) (λ c. Shows (withCounters c) undosShown)
     (tablesOf 𝓤 H 𝓜 (tables 𝓤 H 𝓜 𝓡 code.env)) callee-def.name (λ κs a z. id⊢ 𝓤 _) (λ h ok. id⊢ 𝓤 _) (λ b o h κ. known _)
-    (λ κ q b o γ h z ok n shows. factI 𝓤 _ _ (shows .shown (memory h) (h .core))))
+    (λ κ q b o γ h z ok n shows. factI 𝓤 _ _ (shows .shown (memory h) ok)))

@@ -11,10 +11,10 @@ use Rattle.replica.proofs.showing.at_place.Tie as tie
 
 abbrev lent : tie.Start → State
 lent a =
-    placeParts (a .pre .panel) (a .args .core) (a .args .clocks .now) (a .args .operations .now) (a .args .contexts .now) (a .args .order .now)
+    placeParts (a .args .ordered) (a .args .clocks .now) (a .args .operations .now) (a .args .contexts .now) (a .args .order .now) (a .pre .panel)
 
-inside : (c : tie.Else1) → Within (lent (c .before .before)) (c .before .before .pre .invariant) (c .before .before .args .place)
-inside c = within (lent (c .before .before)) (c .before .before .pre .invariant) (c .before .before .args .place) (c .if1 .left)
+inside : (c : tie.Else1) → Within (lent (c .before)) (c .before .pre .invariant) (c .before .args .place)
+inside c = within (lent (c .before)) (c .before .pre .invariant) (c .before .args .place) (c .if1 .left)
 
 none-requires : tie.Need-none-requires
 none-requires c κs = search needs
@@ -26,15 +26,15 @@ sub-slot : tie.Need-sub-slot
 sub-slot c = omega (arith, inside c)
 
 mul-slot : tie.Need-mul-slot
-mul-slot c = omega (arith, inside c, c .before .before .pre .invariant .counts)
+mul-slot c = omega (arith, inside c, c .before .pre .invariant .counts)
 
 element-copy-out-slot : tie.Need-element-copy-out-slot
-element-copy-out-slot c = omega (arith, inside c, c .before .before .pre .invariant .counts)
+element-copy-out-slot c = omega (arith, inside c, c .before .pre .invariant .counts)
 
 request-at-requires : tie.Need-request-at-requires
 request-at-requires c κs =
     let else = c .before in
-    let a = else .before .before in
+    let a = else .before in
     (order-slot (lent a) (a .pre .invariant) (a .args .place - 1) (omega (arith, inside else)), a .pre .invariant .lengths .requests)
 
 returns-2 : tie.Need-returns-2
