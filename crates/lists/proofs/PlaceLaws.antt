@@ -5,9 +5,9 @@ use native.Mathlib.Omega.{arith}
 use native.Mathlib.Nat.{zero-add, suc-add, le-refl}
 use mathlib.Core.Path.{_≡_, refl, sym, ap, _∙_}
 use mathlib.Core.Bool.{Bool, true, false, not, cond}
-use mathlib.Core.List.{List, [], _∷_, _++_}
-use lib.ListN.{length, take, drop, getD, set, replicate, take-append-drop}
-use lib.Seq.{slice, take-take, take-add, drop-drop, drop-append-le, drop-at, getD-drop, length-take-le, slice-empty}
+use mathlib.Core.List.{List, [], _∷_, _++_, append-nil}
+use lib.ListN.{length, take, drop, getD, set, replicate, take-append-drop, drop-of-length-le}
+use lib.Seq.{sets, sets-eq, slice, take-take, take-add, drop-drop, drop-append-le, drop-at, getD-drop, length-take-le, slice-empty}
 use lib.Dec.{eqb}
 use borrow.Author.Tests.{eqb-true}
 use Rattle.lists.specs.Lists.{one, count, consIf, keep, insert}
@@ -15,6 +15,13 @@ use Rattle.lists.specs.Places.{leading, insertAt}
 
 module _ {A : Type 0} where
   -- ---- parts
+
+  -- as many as a list has, stored from its front on, are all that it has then
+  pub sets-all : (l vs : List A) → length vs ≡ length l → sets l 0 vs ≡ vs
+  sets-all l vs e =
+      sets-eq vs l 0 (omega (arith, e))
+      ∙ ap (λ (r : List A). vs ++ r) (drop-of-length-le l {i = 0 + length vs} (omega (arith, e)))
+      ∙ append-nil vs
 
   -- two lists that agree from place n on agree from every later place on
   pub drop-further : (n k : ℕ) (s t : List A) → n ≤ k → drop n s ≡ drop n t → drop k s ≡ drop k t

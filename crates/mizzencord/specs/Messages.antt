@@ -1,9 +1,11 @@
 -- Messages, and what the reader answers, as a caller in another language sees them.
+use Prim.Native.Nat.{ℕ}
 use mathlib.Core.Bool.{Bool, true, false}
 use Rattle.wire.specs.declared.Subject.{Subject}
 use Rattle.wire.specs.declared.Subject.the-variants.{Request, Settlement}
 use Rattle.wire.specs.declared.Message.{Message as Held}
 use Rattle.wire.specs.declared.Reading.{Reading}
+use Rattle.wire.specs.Message.{noMessage}
 use Rattle.wire.specs.Reader.{refusalOf}
 use Rattle.mizzencord.specs.declared.bytes.Message.{Message}
 use Rattle.mizzencord.specs.declared.bytes.MessageRead.{MessageRead}
@@ -29,3 +31,7 @@ heldFor m = record { subject = subjectBy (m .settles); request = m .request }
 -- the refusal's number, 0 for a message and for the end; the bytes taken; and the message
 abbrev pub readFrom : Reading → MessageRead
 readFrom r = record { refusal = refusalOf (r .answer); taken = r .taken; message = shownFor (r .message) }
+
+-- no message, by that refusal: zeros elsewhere
+abbrev pub unread : ℕ → MessageRead
+unread w = record { refusal = w; taken = 0; message = shownFor noMessage }

@@ -1,13 +1,19 @@
 // The calls on bytes without a panel: a message read, and one written. Each lent slice crosses as a pointer and a length.
 //
 // The contracts are those of `wire`.
+use parts::reading;
 use request::Request;
+use request::refusal;
+use wire::HeadAnswer;
+use wire::Kind;
 use wire::Subject;
 use wire::Written;
 ghost use mathlib.Core.Path.{_≡_};
+ghost use Rattle.wire.specs.Message.{held};
 ghost use Rattle.wire.specs.Reader.{answered, readAt};
+ghost use Rattle.wire.specs.Head.{GoodHead, messageAt};
 ghost use Rattle.wire.specs.Writer.{Wrote};
-ghost use Rattle.mizzencord.specs.Messages.{settlesBy, subjectBy, heldFor, readFrom};
+ghost use Rattle.mizzencord.specs.Messages.{subjectBy, heldFor, shownFor, readFrom, unread as unreadBy};
 
 // A message as C holds it: the request, or the settlement of its number, for which the other fields stand for nothing. An enum does not
 // cross to C.
@@ -30,18 +36,19 @@ pub struct MessageRead {
 pub extern "C" fn mizzencord_read(bytes: &[u8], at: usize) -> MessageRead
     ensures { λ r. ⌜ r ≡ readFrom (answered (readAt (now (bytes .entry)) at)) ⌝ }
 {
-    let reading = wire::read(bytes, at);
-    let answer = reading.answer;
-    let refusal = wire::refusal_of(answer);
-    let held = reading.message;
-    let subject = held.subject;
-    let settles = settles(subject);
-    let request = held.request;
-    let message = Message { settles, request };
-    MessageRead {
-        refusal,
-        taken: reading.taken,
-        message,
+    let head = wire::head_at(bytes, at);
+    let answer = head.answer;
+    match answer {
+        HeadAnswer::Good(kind) => {
+            let message = message_at(bytes, at, kind);
+            MessageRead {
+                refusal: refusal::ACCEPTED,
+                taken: head.taken,
+                message,
+            }
+        }
+        HeadAnswer::End => unread(refusal::ACCEPTED),
+        HeadAnswer::Refused(refusal) => unread(refusal),
     }
 }
 
@@ -56,13 +63,52 @@ pub extern "C" fn mizzencord_write(message: Message, out: &mut [u8]) -> Written
     wire::write(out, held)
 }
 
-// Whether a message about that subject settles.
-fn settles(subject: Subject) -> bool
-    ensures { λ b. ⌜ b ≡ settlesBy subject ⌝ }
+// The message at a place with a good head of its kind, its fields straight from the bytes.
+fn message_at(s: &[u8], at: usize, kind: Kind) -> Message
+    requires { ⌜ GoodHead kind (now s) at ⌝ }
+    ensures { λ r. ⌜ r ≡ shownFor (held (messageAt kind (now (s .entry)) at)) ⌝ }
 {
-    match subject {
-        Subject::Request => false,
-        Subject::Settlement => true,
+    match kind {
+        Kind::Weak => {
+            let context = sets::empty();
+            let request = reading::request_at(s, at, false, context);
+            Message {
+                settles: false,
+                request,
+            }
+        }
+        Kind::Strong => {
+            let context = reading::context_at(s, at);
+            let request = reading::request_at(s, at, true, context);
+            Message {
+                settles: false,
+                request,
+            }
+        }
+        Kind::Settlement => {
+            let number = reading::number_at(s, at);
+            let request = request::bare(number);
+            Message {
+                settles: true,
+                request,
+            }
+        }
+    }
+}
+
+// No message, by that refusal.
+fn unread(refusal: u8) -> MessageRead
+    ensures { λ r. ⌜ r ≡ unreadBy refusal ⌝ }
+{
+    let request = request::none();
+    let message = Message {
+        settles: false,
+        request,
+    };
+    MessageRead {
+        refusal,
+        taken: 0,
+        message,
     }
 }
 

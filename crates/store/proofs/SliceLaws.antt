@@ -3,8 +3,8 @@ use Prim.Native.Nat.{ℕ, suc, _+_, _≤_, _<_}
 use native.Mathlib.Omega.{arith}
 use native.Mathlib.Numerals.{add-one}
 use mathlib.Core.Path.{_≡_, refl, ap, _∙_}
-use mathlib.Core.List.{List, [], _∷_, _++_, append-nil}
-use lib.ListN.{length, take, drop, getD, set, length-append, drop-of-length-le}
+use mathlib.Core.List.{List, [], _∷_, _++_}
+use lib.ListN.{length, take, drop, getD, set, length-append}
 use lib.Seq.{drop-cons, drop-at, take-at, length-take-le, take-set-le, take-set-lt, drop-set-lt, sets, sets-eq, slice, slice-cons}
 
 -- ---- a part of a list after vs were stored from place i on
@@ -32,13 +32,6 @@ module _ {A : Type 0} where
       slice-behind (set l i v) vs from to (suc i) (omega arith) rising
       ∙ ap (drop from) (take-set-lt to l i v (omega arith))
       ∙ drop-set-lt from (take to l) i v (omega arith)
-
-  -- all places of a list
-  pub sets-all : (l vs : List A) → length vs ≡ length l → sets l 0 vs ≡ vs
-  sets-all l vs e =
-      sets-eq vs l 0 (omega (arith, e))
-      ∙ ap (λ (r : List A). vs ++ r) (drop-of-length-le l {i = 0 + length vs} (omega (arith, e)))
-      ∙ append-nil vs
 
 -- ---- loops: what is left to store from place i on gives the whole
 

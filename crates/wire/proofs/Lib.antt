@@ -5,5 +5,6 @@ pub mod HeldLaws
 pub mod ReaderLaws
 pub mod WriterLaws
 pub mod RoundTrip
+pub mod HeadLaws
 pub mod NeverClockBack
 pub mod Examples

@@ -1,15 +1,18 @@
 // Bus messages, document 01's kinds 1 to 3: a reader of a lent run of bytes and a writer into a lent part.
 //
-// Here are the types. The calls are `reader::read` and `writer::write`; `held` makes messages and tells their kind and size, `layout` has
-// the numbers and sizes of the kinds. The contracts cite `readAt`, `writeAnswer` and `afterWrite` of `specs/`; that messages read back as
-// written and write back as read is in `proofs/RoundTrip.antt`.
+// Here are the types. The calls are `reader::read` and `writer::write`; `heads::head_at` judges a message before its fields are read, so
+// that a caller reads those it wants by `parts`, straight from the bytes. `held` makes messages and tells their kind and size, `layout` has
+// the numbers and sizes of the kinds. The contracts cite `readAt`, `headOf`, `writeAnswer` and `afterWrite` of `specs/`; what a good head
+// gives is in `proofs/HeadLaws.antt`, that messages read back as written and write back as read in `proofs/RoundTrip.antt`.
 use request::Request;
 
+pub mod heads;
 pub mod held;
 pub mod layout;
 pub mod reader;
 pub mod writer;
 
+pub use heads::head_at;
 pub use held::kind_of;
 pub use held::of_request;
 pub use held::of_settlement;
@@ -48,6 +51,19 @@ pub enum ReadAnswer {
     Message,
     End,
     Refused(u8),
+}
+
+// What stands at a place by its head: a message of a kind, the end of the bytes, or what is refused by this number.
+pub enum HeadAnswer {
+    Good(Kind),
+    End,
+    Refused(u8),
+}
+
+// A head: the answer with the bytes that the message takes, 0 where there is none.
+pub struct Head {
+    pub answer: HeadAnswer,
+    pub taken: usize,
 }
 
 // An answer with the message and the bytes taken, zeros where there is no message.

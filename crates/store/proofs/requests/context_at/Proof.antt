@@ -6,10 +6,11 @@ use mathlib.Core.List.{[]}
 use lib.ListN.{length, length-set, replicate}
 use lib.Seq.{sets, slice, slice-empty, length-slice}
 use borrow.Author.Needs.{needs}
+use Rattle.lists.proofs.PlaceLaws.{sets-all}
 use Rattle.numbers.specs.Numbers.{mostPanels}
 use Rattle.sets.specs.Sets.{setOf}
 use Rattle.store.specs.Requests.{contextAt}
-use Rattle.store.proofs.SliceLaws.{read-on, sets-all}
+use Rattle.store.proofs.SliceLaws.{read-on}
 use Rattle.store.proofs.requests.context_at.Statement.{statement}
 use Rattle.store.proofs.requests.context_at.Tie as tie
 

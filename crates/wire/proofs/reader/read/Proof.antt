@@ -1,98 +1,64 @@
--- `reader::read` meets its contract, by what stands at the place.
-use Prim.Native.Nat.{ℕ}
-use mathlib.Core.Path.{_≡_, sym, ap, _∙_}
-use mathlib.Core.Option.{Option, none, some}
-use native.Mathlib.Omega.{arith}
-use Rattle.wire.specs.declared.Kind.{Kind}
-use Rattle.wire.specs.Layout.{kindWith, told, decode}
-use Rattle.wire.specs.Reader.{answered, kindAt, readWith, readAt}
-use Rattle.wire.proofs.LayoutLaws.{told-known, told-unknown}
-use Rattle.wire.proofs.ReaderLaws.{at-end, head-cut, of-option}
+-- `reader::read` meets its contract, by what the head answers.
+use mathlib.Core.Path.{sym, ap, _∙_}
+use Rattle.wire.specs.Reader.{answered}
+use Rattle.wire.proofs.HeadLaws.{good-head, good-reads, end-reads, refused-reads}
 use borrow.Author.Needs.{needs}
 use Rattle.wire.proofs.reader.read.Statement.{statement}
 use Rattle.wire.proofs.reader.read.Tie as tie
 
-abbrev startOf : tie.After-kind-with → tie.Start
-startOf c = c .before .before .before .before .before
+head-at-requires : tie.Need-head-at-requires
+head-at-requires c κs = search needs
 
--- what was told is the kind of the number that stands there
-kind-told : (c : tie.After-kind-with)
-    → c .kind-with .result ≡ told (kindWith (kindAt (startOf c .args .s .now) (startOf c .args .at)))
-unfolding kindAt decode
-kind-told c = c .kind-with .ensures ∙ ap (λ (n : ℕ). told (kindWith n)) (c .before .integer-at .ensures .0)
+enum-known-answer : tie.Need-enum-known-answer
+enum-known-answer c = search needs
 
--- so the outcome is by it
-outcome : (c : tie.After-kind-with) (o : Option Kind) → kindWith (kindAt (startOf c .args .s .now) (startOf c .args .at)) ≡ o
-    → readAt (startOf c .args .s .now) (startOf c .args .at) ≡ readWith o (startOf c .args .s .now) (startOf c .args .at)
-outcome c o e = of-option _ _ (c .before .before .before .if1 .left) (c .before .before .if2 .left) o e
-
-untaken-requires : tie.Need-untaken-requires
-untaken-requires c κs = tt
-
-returns : tie.Need-returns
-unfolding answered
-returns c = c .untaken .ensures ∙ sym (ap answered (at-end _ _ (c .before .if1 .taken)))
-
-sub-if2 : tie.Need-sub-if2
-sub-if2 c = search needs
-
-untaken-requires-2 : tie.Need-untaken-requires-2
-untaken-requires-2 c κs = tt
-
-returns-2 : tie.Need-returns-2
-unfolding answered
-returns-2 c = c .untaken2 .ensures ∙ sym (ap answered (head-cut _ _ (c .before .before .if1 .left) (c .before .if2 .taken)))
-
-add-integer-at : tie.Need-add-integer-at
-add-integer-at c = search needs
-
-integer-at-requires : tie.Need-integer-at-requires
-integer-at-requires c κs = search needs
-
-kind-with-requires : tie.Need-kind-with-requires
-kind-with-requires c κs = tt
-
-enum-known-told : tie.Need-enum-known-told
-enum-known-told c = search needs
-
-read-as-requires : tie.Need-read-as-requires
-read-as-requires c κs = omega arith
+message-at-requires : tie.Need-message-at-requires
+message-at-requires c κs = good-head _ _ _ (c .before .before .before .head-at .ensures) _ (c .before .answer .given .1)
 
 enum-told : tie.Need-enum-told
 enum-told c = search needs
 
-untaken-requires-3 : tie.Need-untaken-requires-3
-untaken-requires-3 c κs = tt
+untaken-requires : tie.Need-untaken-requires
+untaken-requires c κs = search needs
+
+enum-known-answer-2 : tie.Need-enum-known-answer-2
+enum-known-answer-2 c = search needs
+
+untaken-requires-2 : tie.Need-untaken-requires-2
+untaken-requires-2 c κs = search needs
+
+returns : tie.Need-returns
+unfolding answered
+returns c =
+    let match = c .before .before in
+    let reads = good-reads _ _ _ (match .before .before .head-at .ensures) _ (match .answer .given .1) in
+    rw (c .message-at .ensures) (sym (ap answered reads))
+
+returns-2 : tie.Need-returns-2
+unfolding answered
+returns-2 c =
+    let match = c .before in
+    let reads = end-reads _ _ _ (match .before .before .head-at .ensures) (match .enum-told .given .1) in
+    c .untaken .ensures ∙ sym (ap answered reads)
 
 returns-3 : tie.Need-returns-3
+unfolding answered
 returns-3 c =
     let match = c .before .before in
-    let w = match .before .before in
-    let known = told-known _ _ (sym (kind-told w) ∙ match .told .given .1) in
-    c .read-as .ensures ∙ sym (ap answered (outcome w (some _) known))
-
-returns-4 : tie.Need-returns-4
-unfolding answered
-returns-4 c =
-    let w = c .before .before .before in
-    let unknown = told-unknown _ (sym (kind-told w) ∙ c .before .enum-told .given .1) in
-    c .untaken3 .ensures ∙ sym (ap answered (outcome w none unknown))
+    let reads = refused-reads _ _ _ (match .before .before .head-at .ensures) _ (match .answer2 .given .1) in
+    c .untaken2 .ensures ∙ sym (ap answered reads)
 
 pub read-spec : {M : Type 1} → statement M
 read-spec =
     tie.close
     (tie.spec
-    untaken-requires
-    returns
-    sub-if2
-    untaken-requires-2
-    returns-2
-    add-integer-at
-    integer-at-requires
-    kind-with-requires
-    enum-known-told
-    read-as-requires
+    head-at-requires
+    enum-known-answer
+    message-at-requires
     enum-told
-    untaken-requires-3
-    returns-3
-    returns-4)
+    untaken-requires
+    enum-known-answer-2
+    untaken-requires-2
+    returns
+    returns-2
+    returns-3)

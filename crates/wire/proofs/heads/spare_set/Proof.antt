@@ -1,4 +1,4 @@
--- `reader::spare_set` meets its contract, kind by kind.
+-- `heads::spare_set` meets its contract, kind by kind.
 use mathlib.Core.Path.{_≡_, refl, sym, ap, _∙_}
 use native.Mathlib.Nat.{add-assoc, add-zero}
 use native.Mathlib.Omega.{arith}
@@ -9,8 +9,8 @@ use Rattle.wire.specs.Layout.{spareField, leastSize, widthsWith, layout,
 use Rattle.wire.specs.Reader.{spareSet, fieldsAt}
 use Rattle.wire.proofs.ReaderLaws.{one-spare}
 use borrow.Author.Needs.{needs}
-use Rattle.wire.proofs.reader.spare_set.Statement.{statement}
-use Rattle.wire.proofs.reader.spare_set.Tie as tie
+use Rattle.wire.proofs.heads.spare_set.Statement.{statement}
+use Rattle.wire.proofs.heads.spare_set.Tie as tie
 
 enum-told : tie.Need-enum-told
 enum-told c = search needs

@@ -1,15 +1,17 @@
--- `reader::read_as` meets its contract: the refusal, or the message.
+-- `heads::head_as` meets its contract: the refusal, or the kind and the length.
 use Prim.Native.Nat.{ℕ}
 use mathlib.Core.Path.{_≡_, sym, ap, _∙_}
 use native.Mathlib.Nat.{add-zero}
 use native.Mathlib.Omega.{arith}
 use Rattle.request.specs.Refusal as refusal
 use Rattle.wire.specs.Layout.{decode}
-use Rattle.wire.specs.Reader.{answered, refused, refusalAs, lengthAt}
-use Rattle.wire.proofs.ReaderLaws.{accepted-laid-out, refused-as, read-as}
+use Rattle.wire.specs.Reader.{refused, refusalAs, lengthAt}
+use Rattle.wire.specs.Head.{headOf}
+use Rattle.wire.proofs.ReaderLaws.{refused-as, read-as}
+use Rattle.wire.proofs.KindLaws.{kind-laws}
 use borrow.Author.Needs.{needs}
-use Rattle.wire.proofs.reader.read_as.Statement.{statement}
-use Rattle.wire.proofs.reader.read_as.Tie as tie
+use Rattle.wire.proofs.heads.head_as.Statement.{statement}
+use Rattle.wire.proofs.heads.head_as.Tie as tie
 
 length-read : (c : tie.After-integer-at)
     → c .integer-at .result ≡ lengthAt (c .before .before .args .s .now) (c .before .before .args .at)
@@ -36,25 +38,22 @@ untaken-requires : tie.Need-untaken-requires
 untaken-requires c κs = tt
 
 returns : tie.Need-returns
-unfolding answered
+unfolding headOf
 returns c =
     let b = c .before .before in
     let word = b .refusal-as .ensures in
     c .untaken .ensures
-    ∙ ap (λ (w : ℕ). answered (refused w)) word
-    ∙ sym (ap answered (refused-as _ _ _ (λ e. c .before .if1 .taken (word ∙ e))))
-
-message-at-requires : tie.Need-message-at-requires
-message-at-requires c κs = accepted-laid-out _ _ _ (accepted c)
+    ∙ ap (λ (w : ℕ). headOf (refused w)) word
+    ∙ sym (ap headOf (refused-as _ _ _ (λ e. c .before .if1 .taken (word ∙ e))))
 
 returns-2 : tie.Need-returns-2
-unfolding answered
+unfolding headOf
 returns-2 c =
-    let d = c .before in
-    rw (c .message-at .ensures, length-read (d .before .before)) (sym (ap answered (read-as _ _ _ (accepted d))))
+    let is = ap headOf (read-as _ _ _ (accepted c)) in
+    rw (length-read (c .before .before)) (sym (is ∙ rw (kind-laws _ .kind-kept)))
 
-pub read-as-spec : {M : Type 1} → statement M
-read-as-spec =
+pub head-as-spec : {M : Type 1} → statement M
+head-as-spec =
     tie.close
     (tie.spec
     add-integer-at
@@ -62,5 +61,4 @@ read-as-spec =
     refusal-as-requires
     untaken-requires
     returns
-    message-at-requires
     returns-2)

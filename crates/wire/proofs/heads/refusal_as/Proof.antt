@@ -1,4 +1,4 @@
--- `reader::refusal_as` meets its contract, refusal by refusal.
+-- `heads::refusal_as` meets its contract, refusal by refusal.
 use Prim.Native.Nat.{_-_, _≤_}
 use mathlib.Core.Path.{sym, _∙_}
 use native.Mathlib.Omega.{arith}
@@ -7,8 +7,8 @@ use Rattle.wire.specs.Layout.{leastSize, mostSize}
 use Rattle.wire.specs.Reader.{lengthAt}
 use Rattle.wire.proofs.ReaderLaws.{too-short, too-long, cut-short, spare-set, laid-out}
 use borrow.Author.Needs.{needs}
-use Rattle.wire.proofs.reader.refusal_as.Statement.{statement}
-use Rattle.wire.proofs.reader.refusal_as.Tie as tie
+use Rattle.wire.proofs.heads.refusal_as.Statement.{statement}
+use Rattle.wire.proofs.heads.refusal_as.Tie as tie
 
 -- past each test: the length is not below the kind's least, not above its most, and the message is whole
 least : (c : tie.Else1)
