@@ -1,21 +1,36 @@
 -- The call that a message stands for is that of its kind, and what stands at a place is received by it or leaves the panel alone.
 use Prim.Native.Nat.{ℕ}
-use mathlib.Core.Path.{_≡_, refl}
+use mathlib.Core.Path.{_≡_, refl, subst}
+use mathlib.Core.Bool.{Bool}
+use mathlib.Core.List.{List}
+use Rattle.numbers.specs.declared.Clock.{Clock}
+use Rattle.numbers.specs.declared.Number.{Number}
 use Rattle.numbers.specs.declared.PanelNo.{PanelNo}
+use Rattle.sets.specs.Sets.{setOf}
+use Rattle.request.specs.declared.Asked.{Asked}
+use Rattle.request.specs.declared.Request.{Request}
+use Rattle.parts.specs.Widths.{settlementWidths, weakWidths, decode}
+use Rattle.parts.specs.Contents.{numberFrom, clockFrom, askedFrom, requestFrom}
+use Rattle.store.specs.Requests.{requestOf}
 use Rattle.request.specs.Refusal.{accepted}
 use Rattle.creek.specs.declared.Answer.{Answer}
 use Rattle.creek.specs.Book.{deliver, commit}
 use Rattle.replica.specs.internal.Parts.{KeptBy}
 use Rattle.wire.specs.declared.Message.{Message}
-use Rattle.wire.specs.declared.Subject.the-variants.{Request, Settlement}
-use Rattle.wire.specs.declared.Reading.{Reading}
-use Rattle.wire.specs.declared.ReadAnswer.the-variants.{Message as aMessage, End, Refused}
-use Rattle.wire.specs.Message.{said}
-use Rattle.wire.specs.Reader.{Outcome, message, answered}
+use Rattle.wire.specs.declared.Subject.the-variants.{Request as aRequest, Settlement}
+use Rattle.wire.specs.Message.{BusMessage, said}
+use Rattle.wire.specs.Reader.{Outcome, message, end, refused, answered}
 use Rattle.wire.proofs.HeldLaws.{said-settlement, said-request}
 use Rattle.intake.specs.Intake.{callOf, answerTo, received, isTakenIn}
-use Rattle.intake.specs.internal.Parts.{Lent, nothing, takeParts, Taken, ReceiveKept}
-use Rattle.intake.proofs.ReadingLaws.{message-only, end-only, refused-only}
+use Rattle.intake.specs.internal.Parts.{Lent, nothing, takeParts, Taken, contextIn, heardAt, ReceiveKept}
+
+-- the number, the clock reading, what is asked for and the context that stand at a place are those of a request
+pub request-read : {n : Number} {clock : Clock} {asked : Asked} {words : List ℕ} (s : List ℕ) (at : ℕ) (strong : Bool)
+    → n ≡ numberFrom (decode settlementWidths s at) → clock ≡ clockFrom (decode weakWidths s at)
+    → asked ≡ askedFrom (decode weakWidths s at) strong → setOf words ≡ contextIn strong s at
+    → requestOf n clock asked words ≡ requestFrom (decode weakWidths s at) strong (contextIn strong s at)
+unfolding decode
+request-read s at strong number clock asked context = λ i. record { number = number i; clock = clock i; asked = asked i; context = context i }
 
 module _ {panels : ℕ} {own : PanelNo} {l : Lent} where
   -- ---- the call that a message stands for
@@ -26,32 +41,35 @@ module _ {panels : ℕ} {own : PanelNo} {l : Lent} where
     unfolding callOf
     take-settled e k = rw (said-settlement m e) k
 
-    pub take-heard : m .subject ≡ Request
+    pub take-heard : m .subject ≡ aRequest
         → KeptBy (takeParts panels own l) (takeParts panels own l′) (deliver (m .request)) a → Taken panels own l (said m) l′ a
     unfolding callOf
     take-heard e k = rw (said-request m e) k
 
+  -- what is heard, under another name
+  pub heard-as : {l′ : Lent} {a : Answer} {x y : Request} → x ≡ y → heardAt panels own l x l′ a → heardAt panels own l y l′ a
+  heard-as {l′} {a} e k = subst (λ (x : Request). heardAt panels own l x l′ a) e k
+
   -- ---- what stands at a place
 
-  module _ (reading : Reading) {o : Outcome} (is : reading ≡ answered o) where
-    pub receive-message : {l′ : Lent} {a : Answer} → reading .answer ≡ aMessage → Taken panels own l (said (reading .message)) l′ a
-        → ReceiveKept panels own l o l′ (record { answer = a; taken = reading .taken })
+  module _ {o : Outcome} where
+    pub receive-message : {l′ : Lent} {a : Answer} {m : BusMessage} {n : ℕ} → o ≡ message m n → Taken panels own l m l′ a
+        → ReceiveKept panels own l o l′ (record { answer = a; taken = n })
     unfolding answered answerTo received isTakenIn
-    receive-message {l′} {a} e k =
-        message-only reading (λ (o : Outcome). ReceiveKept panels own l o l′ (record { answer = a; taken = reading .taken })) e (record {
-          kept = λ p inv.
-              let done = k .kept p inv in
-              record { taken = refl; answer = done .answer; state = done .state; unchanged = done .unchanged; invariant = done .invariant };
-        }) o is
+    receive-message e k = rw e record {
+      kept = λ p inv.
+          let done = k .kept p inv in
+          record { taken = refl; answer = done .answer; state = done .state; unchanged = done .unchanged; invariant = done .invariant };
+    }
 
-    pub receive-end : reading .answer ≡ End → ReceiveKept panels own l o l (nothing accepted)
+    pub receive-end : o ≡ end → ReceiveKept panels own l o l (nothing accepted)
     unfolding answered answerTo received isTakenIn
-    receive-end e =
-        end-only reading (λ (o : Outcome). ReceiveKept panels own l o l (nothing accepted)) e
-        (record { kept = λ p inv. record { taken = refl; answer = refl; state = refl; unchanged = λ _. refl; invariant = inv } }) o is
+    receive-end e = rw e record {
+      kept = λ p inv. record { taken = refl; answer = refl; state = refl; unchanged = λ _. refl; invariant = inv };
+    }
 
-    pub receive-refused : (w : ℕ) → reading .answer ≡ Refused w → ReceiveKept panels own l o l (nothing w)
+    pub receive-refused : (w : ℕ) → o ≡ refused w → ReceiveKept panels own l o l (nothing w)
     unfolding answered answerTo received isTakenIn
-    receive-refused w e =
-        refused-only reading (λ (o : Outcome). ReceiveKept panels own l o l (nothing w)) w e
-        (record { kept = λ p inv. record { taken = refl; answer = refl; state = refl; unchanged = λ _. refl; invariant = inv } }) o is
+    receive-refused w e = rw e record {
+      kept = λ p inv. record { taken = refl; answer = refl; state = refl; unchanged = λ _. refl; invariant = inv };
+    }

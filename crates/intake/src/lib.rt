@@ -1,20 +1,21 @@
 // Bus messages taken in by a panel: the call that a message stands for, and the message at a place of a run of bytes.
 //
-// The panel's parts are lent as in `entering` and `settling`, whose calls these are. `Intake` of `specs/` says what a message stands for and
-// what receiving promises, `Found` which messages are found in a run of bytes.
+// The panel's parts are lent as in `entering` and `settling`, whose calls these are. Here a message is taken in that was read before; one that
+// stands at a place of a run of bytes is received in `receiving`. `Intake` of `specs/` says what a message stands for and what receiving
+// promises, `Found` which messages are found in a run of bytes.
+pub mod receiving;
+
 use creek::Answer;
 use creek::Reply;
 use numbers::PanelNo;
+pub use receiving::receive;
 use replica::CallResult;
 use replica::Core;
-use request::refusal;
 use wire::Message;
 use wire::Subject;
-ghost use mathlib.Core.Path.{_≡_};
 ghost use Rattle.creek.specs.Replies.{replyAnswer};
 ghost use Rattle.wire.specs.Message.{said};
-ghost use Rattle.wire.specs.Reader.{readAt};
-ghost use Rattle.intake.specs.internal.Parts.{lentNow, lentEntry, lentExit, TakeAsks, Taken, nothing, ReceiveKept};
+ghost use Rattle.intake.specs.internal.Parts.{lentNow, lentEntry, lentExit, TakeAsks, Taken};
 ghost use Rattle.intake.specs.internal.Parts.{TakeCoreAsks, TakenByCore};
 
 // What the message at a place led to: the answer, and the message's bytes, 0 where none could be read.
@@ -148,71 +149,4 @@ pub fn take_with_core<'a>(
         core: after,
         answer,
     }
-}
-
-// The message at a place is read, and heard or settled; what cannot be read leaves the panel alone.
-pub fn receive<'a>(
-    bytes: &[u8],
-    at: usize,
-    panels: u8,
-    own: PanelNo,
-    committed: &mut usize,
-    ordered: &mut usize,
-    executed: &mut usize,
-    commits: &mut u32,
-    held: &mut [u64; 8],
-    known: &mut [u64; 8],
-    awaiting: &mut [u64; 8],
-    clocks: &mut [u32; 512],
-    operations: &mut [u64; 512],
-    contexts: &mut [u64; 4096],
-    order: &mut [u16; 512],
-    stack: &'a [u16; 512],
-    responses: &'a [u32; 512],
-) -> Receipt
-    requires { ⌜ TakeAsks panels own
-        (lentNow committed ordered executed commits held known awaiting clocks operations contexts order stack responses) ⌝ }
-    ensures { λ r. ⌜ ReceiveKept panels own
-        (lentEntry committed ordered executed commits held known awaiting clocks operations contexts order stack responses) (readAt (now (bytes .entry)) at)
-        (lentExit committed ordered executed commits held known awaiting clocks operations contexts order stack responses) r ⌝ }
-{
-    let reading = wire::read(bytes, at);
-    let found = reading.answer;
-    match found {
-        wire::ReadAnswer::Message => {
-            let reply = take(
-                panels,
-                own,
-                committed,
-                ordered,
-                executed,
-                commits,
-                held,
-                known,
-                awaiting,
-                clocks,
-                operations,
-                contexts,
-                order,
-                stack,
-                responses,
-                reading.message,
-            );
-            let answer = replica::answer_of(reply);
-            Receipt {
-                answer,
-                taken: reading.taken,
-            }
-        }
-        wire::ReadAnswer::End => untaken(refusal::ACCEPTED),
-        wire::ReadAnswer::Refused(refusal) => untaken(refusal),
-    }
-}
-
-// Nothing was taken in, by that refusal.
-fn untaken(refusal: u8) -> Receipt
-    ensures { λ r. ⌜ r ≡ nothing refusal ⌝ }
-{
-    let answer = replica::refused(refusal);
-    Receipt { answer, taken: 0 }
 }

@@ -1,0 +1,248 @@
+// A message at a place of a run of bytes is received: its head is judged, and then its fields go from the bytes to the panel.
+use super::Receipt;
+use creek::Reply;
+use numbers::PanelNo;
+use parts::places;
+use parts::reading;
+use request::refusal;
+use wire::HeadAnswer;
+use wire::Kind;
+ghost use mathlib.Core.Path.{_≡_};
+ghost use Prim.Native.Nat.{_+_, _≤_};
+ghost use lib.ListN.{length, replicate};
+ghost use Rattle.numbers.specs.Numbers.{mostPanels};
+ghost use Rattle.parts.specs.Widths.{weakWidths, size, decode};
+ghost use Rattle.parts.specs.Contents.{requestFrom};
+ghost use Rattle.creek.specs.Book.{deliver as deliverCall};
+ghost use Rattle.creek.specs.Replies.{replyAnswer};
+ghost use Rattle.replica.specs.internal.Parts.{KeptBy};
+ghost use Rattle.wire.specs.Reader.{readAt};
+ghost use Rattle.wire.specs.Head.{GoodHead, messageAt};
+ghost use Rattle.intake.specs.internal.Parts.{lentNow, lentEntry, lentExit, takeParts, TakeAsks, Taken, nothing, ReceiveKept};
+ghost use Rattle.intake.specs.internal.Parts.{contextSize, contextIn, ContextPut, heardAt};
+
+// The message at a place is heard or settled; what cannot be read leaves the panel alone.
+pub fn receive<'a>(
+    bytes: &[u8],
+    at: usize,
+    panels: u8,
+    own: PanelNo,
+    committed: &mut usize,
+    ordered: &mut usize,
+    executed: &mut usize,
+    commits: &mut u32,
+    held: &mut [u64; 8],
+    known: &mut [u64; 8],
+    awaiting: &mut [u64; 8],
+    clocks: &mut [u32; 512],
+    operations: &mut [u64; 512],
+    contexts: &mut [u64; 4096],
+    order: &mut [u16; 512],
+    stack: &'a [u16; 512],
+    responses: &'a [u32; 512],
+) -> Receipt
+    requires { ⌜ TakeAsks panels own
+        (lentNow committed ordered executed commits held known awaiting clocks operations contexts order stack responses) ⌝ }
+    ensures { λ r. ⌜ ReceiveKept panels own
+        (lentEntry committed ordered executed commits held known awaiting clocks operations contexts order stack responses) (readAt (now (bytes .entry)) at)
+        (lentExit committed ordered executed commits held known awaiting clocks operations contexts order stack responses) r ⌝ }
+{
+    let head = wire::head_at(bytes, at);
+    let found = head.answer;
+    match found {
+        HeadAnswer::Good(kind) => {
+            let reply = take_at(
+                bytes,
+                at,
+                kind,
+                panels,
+                own,
+                committed,
+                ordered,
+                executed,
+                commits,
+                held,
+                known,
+                awaiting,
+                clocks,
+                operations,
+                contexts,
+                order,
+                stack,
+                responses,
+            );
+            let answer = replica::answer_of(reply);
+            Receipt {
+                answer,
+                taken: head.taken,
+            }
+        }
+        HeadAnswer::End => untaken(refusal::ACCEPTED),
+        HeadAnswer::Refused(refusal) => untaken(refusal),
+    }
+}
+
+// The message of that kind, whose head stands at a place, is heard or settled.
+fn take_at<'a>(
+    bytes: &[u8],
+    at: usize,
+    kind: Kind,
+    panels: u8,
+    own: PanelNo,
+    committed: &mut usize,
+    ordered: &mut usize,
+    executed: &mut usize,
+    commits: &mut u32,
+    held: &mut [u64; 8],
+    known: &mut [u64; 8],
+    awaiting: &mut [u64; 8],
+    clocks: &mut [u32; 512],
+    operations: &mut [u64; 512],
+    contexts: &mut [u64; 4096],
+    order: &mut [u16; 512],
+    stack: &'a [u16; 512],
+    responses: &'a [u32; 512],
+) -> Reply
+    requires { ⌜ GoodHead kind (now bytes) at ⌝ }
+    requires { ⌜ TakeAsks panels own
+        (lentNow committed ordered executed commits held known awaiting clocks operations contexts order stack responses) ⌝ }
+    ensures { λ r. ⌜ Taken panels own
+        (lentEntry committed ordered executed commits held known awaiting clocks operations contexts order stack responses) (messageAt kind (now (bytes .entry)) at)
+        (lentExit committed ordered executed commits held known awaiting clocks operations contexts order stack responses) (replyAnswer r) ⌝ }
+{
+    match kind {
+        Kind::Weak => hear_at(
+            bytes,
+            at,
+            false,
+            panels,
+            own,
+            committed,
+            ordered,
+            executed,
+            commits,
+            held,
+            known,
+            awaiting,
+            clocks,
+            operations,
+            contexts,
+            order,
+            stack,
+            responses,
+        ),
+        Kind::Strong => hear_at(
+            bytes,
+            at,
+            true,
+            panels,
+            own,
+            committed,
+            ordered,
+            executed,
+            commits,
+            held,
+            known,
+            awaiting,
+            clocks,
+            operations,
+            contexts,
+            order,
+            stack,
+            responses,
+        ),
+        Kind::Settlement => {
+            let number = reading::number_at(bytes, at);
+            let standing = *ordered;
+            settling::commit(
+                panels,
+                standing,
+                committed,
+                executed,
+                commits,
+                held,
+                known,
+                awaiting,
+                operations,
+                contexts,
+                order,
+                stack,
+                responses,
+                number,
+            )
+        }
+    }
+}
+
+// The request of that strength at a place is heard, with the words of its context where it is strong.
+fn hear_at<'a>(
+    bytes: &[u8],
+    at: usize,
+    strong: bool,
+    panels: u8,
+    own: PanelNo,
+    committed: &mut usize,
+    ordered: &mut usize,
+    executed: &mut usize,
+    commits: &mut u32,
+    held: &mut [u64; 8],
+    known: &mut [u64; 8],
+    awaiting: &mut [u64; 8],
+    clocks: &mut [u32; 512],
+    operations: &mut [u64; 512],
+    contexts: &mut [u64; 4096],
+    order: &mut [u16; 512],
+    stack: &'a [u16; 512],
+    responses: &'a [u32; 512],
+) -> Reply
+    requires { ⌜ at + size weakWidths + contextSize strong ≤ length (now bytes) ⌝ }
+    requires { ⌜ TakeAsks panels own
+        (lentNow committed ordered executed commits held known awaiting clocks operations contexts order stack responses) ⌝ }
+    ensures { λ r. ⌜ heardAt panels own
+        (lentEntry committed ordered executed commits held known awaiting clocks operations contexts order stack responses)
+        (requestFrom (decode weakWidths (now (bytes .entry)) at) strong (contextIn strong (now (bytes .entry)) at))
+        (lentExit committed ordered executed commits held known awaiting clocks operations contexts order stack responses) (replyAnswer r) ⌝ }
+{
+    let mut words = [0u64; 8];
+    put_context(&mut words, bytes, at, strong);
+    let number = reading::number_at(bytes, at);
+    let clock = reading::clock_at(bytes, at);
+    let asked = reading::asked_at(bytes, at, strong);
+    let settled = *committed;
+    let refusal = entering::deliver(
+        panels,
+        own,
+        settled,
+        ordered,
+        executed,
+        held,
+        known,
+        clocks,
+        operations,
+        contexts,
+        order,
+        number,
+        clock,
+        asked,
+        &words,
+    );
+    replica::refusing(refusal)
+}
+
+// Puts the words of the context of a request of that strength at a place where zeros stand.
+fn put_context(words: &mut [u64; 8], bytes: &[u8], at: usize, strong: bool)
+    requires { ⌜ (now words ≡ replicate mostPanels 0) × (at + size weakWidths + contextSize strong ≤ length (now bytes)) ⌝ }
+    ensures { λ _. ⌜ ContextPut strong (now (bytes .entry)) at (now (words .exit)) ⌝ }
+{
+    if strong {
+        reading::words_at(words, bytes, at + places::CONTEXT_AT);
+    }
+}
+
+// Nothing was taken in, by that refusal.
+fn untaken(refusal: u8) -> Receipt
+    ensures { λ r. ⌜ r ≡ nothing refusal ⌝ }
+{
+    let answer = replica::refused(refusal);
+    Receipt { answer, taken: 0 }
+}
