@@ -5,8 +5,8 @@ use native.Mathlib.Nat.{zero-add}
 use mathlib.Core.Path.{_≡_, refl, sym, ap, subst, _∙_}
 use mathlib.Core.Bool.{Bool, true, false, not, _||_}
 use mathlib.Core.List.{List, map}
-use lib.ListN.{length, take, drop, getD, length-take, length-drop, List·getD-map}
-use lib.Seq.{take-take, getD-take, getD-drop, length-slice}
+use lib.ListN.{length, take, drop, getD, length-take}
+use lib.Seq.{take-take, length-slice}
 use lib.Dec.{eqb, ltb}
 use borrow.Author.Tests.{eq-eqb, ne-eqb, eqb-true, eqb-false, ltb-true, ltb-false}
 use Rattle.lists.specs.Lists.{one, count, insert, commonStart}
@@ -15,7 +15,6 @@ use Rattle.lists.proofs.BoolLaws.{true-not-false}
 use Rattle.lists.proofs.ListLaws.{one-false, commonStart-most}
 use Rattle.lists.proofs.AllLaws.{all-weaken, all-take, all-drop, all-insertAt, none-all}
 use Rattle.lists.proofs.MapLaws.{map-take, map-drop, map-insertAt, count-map, leading-map, leading-agree, commonStart-map, map-agree}
-use Rattle.lists.proofs.OrderedLaws.{ordered-at}
 use Rattle.lists.proofs.StartLaws.{commonStart-inserted}
 use Rattle.lists.proofs.PlaceLaws.{leading-most, insert-place, take-insertAt, drop-insertAt, count-insertAt}
 use Rattle.numbers.specs.declared.Clock.{Clock}
@@ -45,7 +44,7 @@ use Rattle.store.proofs.RequestLaws.{stored-other, stored-long}
 use Rattle.replica.specs.internal.Model.{orderSlots, boardSlots, orderOf, boardOf, planOf, bookOf, model}
 use Rattle.replica.specs.internal.Model.{Counts, Lengths, Log, Inv}
 use Rattle.entering.specs.Entering.{Enters, OwnSoFar, Entered}
-use Rattle.replica.proofs.ModelLaws.{order-planned, plan-sound, length-order-slots, length-order, order-slot, executed-follows}
+use Rattle.replica.proofs.ModelLaws.{order-planned, length-order-slots, length-order, order-slot, tentative-ordered, executed-follows}
 use Rattle.replica.proofs.RequestLaws.{tentativeSlots, same-request, count-held}
 use Rattle.replica.proofs.States.{enlarged}
 
@@ -123,15 +122,6 @@ module _ (p : State) (x : Request) (inv : Inv p) (new : Enters p x) where
   unfolding requestAt
   comes-before t h = comes-before-order x (at-before t) (p .clocks) t (new .number) h refl refl
 
-  tentative-at : (k : ℕ) → p .committed ≤ k → k < p .ordered
-      → getD tentative-before (k - p .committed) (at-before 0) ≡ at-before (getD (p .order) k 0)
-  tentative-at k low high =
-      let place : p .committed + (k - p .committed) ≡ k = omega arith in
-      getD-drop (p .committed) (orderOf p) (k - p .committed) (at-before 0)
-      ∙ ap (λ (n : ℕ). getD (orderOf p) n (at-before 0)) place
-      ∙ List·getD-map at-before (orderSlots p) k 0
-      ∙ ap at-before (getD-take (p .ordered) (p .order) k 0 high)
-
   module _ (i j : ℕ) (low : p .committed ≤ i) (high : j < p .ordered) where
     below : i ≤ j → (i ≡ j → ⊥) → i < j
     below up apart = go (ltb i j) refl
@@ -139,13 +129,6 @@ module _ (p : State) (x : Request) (inv : Inv p) (new : Enters p x) where
         go : (b : Bool) → ltb i j ≡ b → i < j
         go true h = ltb-true i j h
         go false h = absurd (apart (omega (arith, ltb-false i j h)))
-
-    in-clock-order : i < j → before (at-before (getD (p .order) i 0)) (at-before (getD (p .order) j 0)) ≡ true
-    unfolding planOf
-    in-clock-order h =
-        rw (tentative-at i low (omega arith), tentative-at j (omega arith) high) at
-        (ordered-at before tentative-before (plan-sound p inv .clock-order) (i - p .committed) (j - p .committed) (at-before 0)
-        (omega arith) (omega (arith, length-order p inv, length-drop (p .committed) (orderOf p))))
 
     -- once it comes before one of the tentative requests, it comes before all behind that
     split-at : i ≤ j → comesBefore (p .clocks) (x .clock .0) (slot x) (getD (p .order) i 0) ≡ true
@@ -156,7 +139,8 @@ module _ (p : State) (x : Request) (inv : Inv p) (new : Enters p x) where
         go true s = ap (λ (k : ℕ). comesBefore (p .clocks) (x .clock .0) (slot x) (getD (p .order) k 0)) (sym (eqb-true i j s)) ∙ e
         go false s =
             sym (comes-before _ (order-slot p inv j high))
-            ∙ before-transitive x _ _ (comes-before _ (order-slot p inv i (omega arith)) ∙ e) (in-clock-order (below up (eqb-false i j s)))
+            ∙ before-transitive x _ _ (comes-before _ (order-slot p inv i (omega arith)) ∙ e)
+            (tentative-ordered p inv i j low (below up (eqb-false i j s)) high)
 
   -- the place by clock readings and slots is the place in clock order
   behind-order : behind p x ≡ leading (λ y. not (before x y)) tentative-before

@@ -14,13 +14,9 @@ use Rattle.lists.proofs.AllLaws.{all-take}
 use Rattle.lists.proofs.ListLaws.{one-false, count-append, count-drop, count-weaker, keep-append, keep-nothing, keep-everything}
 use Rattle.lists.proofs.PlaceLaws.{drop-further, take-slice, slice-split, slice-further}
 use Rattle.ordering.specs.Slots.{IsSlot, inWords}
-use Rattle.slots.specs.Settlement.{stays, settled, SettlementAsks, Settled}
+use Rattle.slots.specs.Settlement.{stays, moves, settled, SettlementAsks, Settled}
 
 -- ---- the walk down
-
--- those that a settlement of s moves
-abbrev moves : List ℕ → ℕ → ℕ → Bool
-moves words s t = not (stays words s t)
 
 -- a slot stays by the test of a turn
 pub stays-tested : (words : List ℕ) (s t : ℕ) (named met : Bool) → named ≡ inWords words t → named || eqb s t ≡ met
@@ -134,8 +130,8 @@ module _ (xs : List ℕ) (from to : ℕ) (words : List ℕ) (s : ℕ) (h : Settl
       ∙ sym (append-assoc (keep (inWords words) (slice from e xs)) (s ∷ keep (stays words s) (slice from e xs)) (slice e to xs))
 
   -- so their settlement is the settlement of all
-  pub settled-further : (ys : List ℕ) (r : ℕ) → Settled xs from e words s ys r e → Settled xs from to words s ys r e
-  settled-further ys r d = record {
+  pub settled-further : (ys : List ℕ) (r k : ℕ) → Settled xs from e words s ys r k → Settled xs from to words s ys r k
+  settled-further ys r k d = record {
     committed = d .committed ∙ ap (λ (l : List ℕ). from + length l + 1) (sym named-before);
     first =
         take-slice e to high ys
@@ -147,6 +143,6 @@ module _ (xs : List ℕ) (from to : ℕ) (words : List ℕ) (s : ℕ) (h : Settl
     rest = drop-further e to ys xs high (d .rest);
     long = d .long;
     moved = d .moved;
-    within = high;
+    within = omega (arith, d .within);
     unmoved = d .unmoved;
   }
