@@ -30,6 +30,7 @@ use Rattle.request.proofs.OrderLaws.{before-transitive}
 use Rattle.numbers.proofs.NumberLaws.{sameNumber-self, sameNumber-sym, slot-fits, number-of-slot}
 use Rattle.sets.proofs.SetLaws.{member-join, join-length}
 use Rattle.slots.specs.Slots.{IsSlot, OrderAsks, comesBefore}
+use Rattle.slots.specs.Marks.{Marks}
 use Rattle.slots.specs.Insertion.{PlaceAsks, placeFor, InsertionAsks, Inserted}
 use Rattle.slots.proofs.SlotLaws.{part-of, same-slot, comes-before-order}
 use Rattle.creek.specs.Plan.{Plan, order, hasNumber, knownWith, entered}
@@ -270,6 +271,16 @@ module _ (p : State) (x : Request) (inv : Inv p) (new : Enters p x) where
             omega (arith, one-false (ap (member (p .held)) number ∙ new .absent))
         go false e = zero-add (one (member (p .held) (numberOf t)))
 
+    -- the committed requests are those that were
+    settled-after : Marks new-order (p .committed) (p .settled .words)
+    settled-after =
+        let same : take (p .committed) new-order ≡ take (p .committed) (p .order) =
+        sym (take-take (p .committed) (p .ordered + 1) new-order (omega (arith, inv .counts)))
+        ∙ ap (take (p .committed)) (ins .first)
+        ∙ take-insertAt (p .committed) (behind p x) (slot x) (orderSlots p) (omega (arith, inv .counts, length-order-slots p inv))
+        ∙ take-take (p .committed) (p .ordered) (p .order) (inv .counts .committed) in
+        record { marked = λ t h. ap (count (eqb t)) same ∙ inv .settled .marked t h }
+
     counts-after : Counts after
     counts-after =
         let few = commonStart-most eqb (take (p .executed) (p .stack)) (take (p .ordered + 1) new-order) in
@@ -291,6 +302,7 @@ module _ (p : State) (x : Request) (inv : Inv p) (new : Enters p x) where
       responses = inv .lengths .responses;
       held = ap (λ (s : Context). length (s .words)) joined ∙ join-length (p .held) (x .number) ∙ inv .lengths .held;
       awaiting = long;
+      settled = inv .lengths .settled;
     }
 
     invariant-after : OwnSoFar (p .own .0) (entered (planOf p) x) (setOf awaiting) events clock → Sound (model after) → Inv after
@@ -298,6 +310,7 @@ module _ (p : State) (x : Request) (inv : Inv p) (new : Enters p x) where
       counts = counts-after;
       lengths = lengths-after (so-far .words);
       held = held-after;
+      settled = settled-after;
       order-slots = order-slots-after;
       board-slots = inv .board-slots;
       log = subst (λ (l : List Request). Log l (p .registers) (p .saved) (p .responses)) (sym board-after) (inv .log);

@@ -23,7 +23,7 @@ numbers p = record {
 abbrev pub memory : Panel → State
 memory p =
     packed (numbers p) (p .counters) (p .held) (p .known) (p .awaiting) (p .clocks) (p .operations) (p .contexts) (p .order) (p .stack)
-    (p .registers) (p .saved) (p .responses)
+    (p .registers) (p .saved) (p .responses) (p .settled)
 
 -- all due steps with that result led to that state
 abbrev pub ran : DueSteps → State → DueOutcome

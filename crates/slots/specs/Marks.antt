@@ -21,3 +21,4 @@ pub record United (words others after : List ℕ) : Type 0 where
 -- `after` has the numbers that were settled, those of the context `words` and that of s
 pub record Marked (settledWords words : List ℕ) (s : ℕ) (after : List ℕ) : Type 0 where
   pub members : (t : ℕ) → IsSlot t → inWords after t ≡ (inWords settledWords t || (inWords words t || eqb s t))
+  pub long : length after ≡ mostPanels

@@ -5,8 +5,8 @@ use Rattle.intake.proofs.receive.Statement.{statement}
 use Rattle.intake.proofs.receive.Tie as tie
 
 -- where the reader's answer is known to be a message
-abbrev told : tie.After-take-arg11 → tie.After-enum-told
-told c = c .before .before .before .before .before .before .before .before .before .before .before
+abbrev told : tie.After-take-arg12 → tie.After-enum-told
+told c = c .before .before .before .before .before .before .before .before .before .before .before .before
 
 read-requires : tie.Need-read-requires
 read-requires c κs = search needs
