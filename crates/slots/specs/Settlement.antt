@@ -60,20 +60,6 @@ pub record Settled (xs : List ℕ) (from to : ℕ) (words : List ℕ) (s : ℕ) 
   pub within : e ≤ to
   pub unmoved : drop e ys ≡ drop e xs
 
--- ---- the last place that a settlement moves
-
--- what a walk down from `to` to that place asks: from some place on up to `to`, the slots are as a settlement of s asks
-pub record MovingAsks (order : List ℕ) (to : ℕ) (words : List ℕ) (s : ℕ) : Type 0 where
-  pub from : ℕ
-  pub asks : SettlementAsks order from to words s
-
--- r is the place behind it: the slot before r does not stay, and all those from r on do
-pub record MovingEnd (order : List ℕ) (to : ℕ) (words : List ℕ) (s r : ℕ) : Type 0 where
-  pub some : 1 ≤ r
-  pub inside : r ≤ to
-  pub last : stays words s (getD order (r - 1) 0) ≡ false
-  pub behind : count (moves words s) (slice r to order) ≡ 0
-
 -- ---- the place behind the last that moves, by how many do
 
 -- a settlement of s moves `moving` of the slots from..to

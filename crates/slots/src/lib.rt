@@ -8,7 +8,6 @@ pub use ordering::insert_at;
 pub use ordering::place;
 pub use ordering::take_out;
 pub use settlement::settle_moving;
-pub use settlement::settle_order;
 
 pub mod front;
 pub mod members;

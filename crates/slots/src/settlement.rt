@@ -6,7 +6,7 @@ ghost use mathlib.Core.Path.{_≡_};
 ghost use Prim.Native.Nat.{_<_};
 ghost use lib.Seq.{paste};
 ghost use Rattle.ordering.specs.Slots.{mostSlots, inWords};
-ghost use Rattle.slots.specs.Settlement.{MovingAsks, MovingEnd, SomeCounted, CountedEnd, SeparationAsks, Separated, PutAsks};
+ghost use Rattle.slots.specs.Settlement.{SomeCounted, CountedEnd, SeparationAsks, Separated, PutAsks};
 ghost use Rattle.slots.specs.Settlement.{SettlementAsks, Settled, MovesAsk};
 
 // What a settlement made of an order: how many are committed then, and the place behind the last slot that it moved.
@@ -28,24 +28,8 @@ fn in_words(words: &[u64; 8], t: u16) -> bool
     (word >> bit) % 2 == 1
 }
 
-// The place behind the last that a settlement of that slot with that context moves: goes down from `to` to the first that is named or
-// is the slot itself, which stands there.
-fn moving_end<'a>(order: &'a [u16; 512], to: usize, words: &'a [u64; 8], slot: u16) -> usize
-    requires { ⌜ MovingAsks (now order) to (now words) slot ⌝ }
-    ensures { λ r. ⌜ MovingEnd (now (order .entry)) to (now (words .entry)) slot r ⌝ }
-{
-    let mut end = to;
-    loop {
-        let t = order[end - 1];
-        let named = in_words(words, t);
-        if named | (slot == t) {
-            return end;
-        }
-        end -= 1;
-    }
-}
-
-// The same where it is known that `moving` of the places from `from` on move: goes up from there until all of them are met.
+// The place behind the last that a settlement of that slot with that context moves, where `moving` of the places from `from` on move: goes
+// up from there until all of them are met.
 fn counted_end<'a>(
     order: &'a [u16; 512],
     from: usize,
@@ -129,24 +113,9 @@ fn settle_upto(
     SettledOrder { committed, end }
 }
 
-// Puts the places from..to of the order, the tentative slots, into the order of a settlement of that slot with that context. What
-// stands behind the last that moves is left alone.
-pub fn settle_order(
-    order: &mut [u16; 512],
-    from: usize,
-    to: usize,
-    words: &[u64; 8],
-    slot: u16,
-) -> SettledOrder
-    requires { ⌜ SettlementAsks (now order) from to (now words) slot ⌝ }
-    ensures { λ r. ⌜ Settled (now (order .entry)) from to (now (words .entry)) slot (now (order .exit)) (r .committed) (r .end) ⌝ }
-{
-    let end = moving_end(order, to, words, slot);
-    settle_upto(order, from, end, words, slot)
-}
-
-// The same where it is known which numbers are settled. Where the slot moves alone, it goes to the front; where those that move stand there
-// already, the slot last, the order stays as it is; else the places up to the last that moves are settled.
+// Puts the places from..to of the order, the tentative slots, into the order of a settlement of that slot with that context, by the set of
+// the numbers that are settled. Where the slot moves alone, it goes to the front; where those that move stand there already, the slot last,
+// the order stays as it is; else the places up to the last that moves are settled. What stands behind that one is left alone.
 pub fn settle_moving<'a>(
     order: &mut [u16; 512],
     clocks: &'a [u32; 512],
