@@ -174,8 +174,8 @@ typedef struct {
     uint8_t refusal;
 } mizzencord_ran;
 
-/* A panel: 47,608 bytes, aligned as a uint64_t. */
-#define MIZZENCORD_PANEL_SIZE 47608
+/* A panel: 47,672 bytes, aligned as a uint64_t. */
+#define MIZZENCORD_PANEL_SIZE 47672
 typedef struct {
     uint64_t memory[MIZZENCORD_PANEL_SIZE / 8];
 } mizzencord_panel;

@@ -29,6 +29,7 @@ pub(crate) fn print_run(calls: &[u8]) {
     let mut registers = [0u32; 64];
     let mut saved = [0u64; 512];
     let mut responses = [0u32; 512];
+    let mut settled = [0u64; 8];
     let ran = driver::run(
         calls,
         &mut answers,
@@ -43,6 +44,7 @@ pub(crate) fn print_run(calls: &[u8]) {
         &mut registers,
         &mut saved,
         &mut responses,
+        &mut settled,
     );
     print_answers(&answers, ran.ran);
 }

@@ -11,18 +11,20 @@ use Rattle.encoding.specs.Encoding.{messageCall}
 use Rattle.counting.specs.declared.EntryResult.{EntryResult}
 
 -- the answer, and the state of the core, the counters and those arrays
-abbrev pub leadsTo : EntryResult → (held known awaiting clocks operations contexts order stack registers saved responses : List ℕ) → Called
-leadsTo r held known awaiting clocks operations contexts order stack registers saved responses = record {
+abbrev pub leadsTo : EntryResult → (held known awaiting clocks operations contexts order stack registers saved responses settled : List ℕ)
+    → Called
+leadsTo r held known awaiting clocks operations contexts order stack registers saved responses settled = record {
   answer = r .answer;
-  state = packed (r .core) (r .counters) held known awaiting clocks operations contexts order stack registers saved responses;
+  state = packed (r .core) (r .counters) held known awaiting clocks operations contexts order stack registers saved responses settled;
 }
 
 -- ---- the call of a message
 
 -- of every panel with these parts that came from fresh and the calls: the call of the message behind that tag was answered and carried out as `creek` says
-abbrev pub MessageKept : Core → (held known awaiting clocks operations contexts order stack responses : List ℕ) → ℕ → Message
-    → (held′ known′ awaiting′ clocks′ operations′ contexts′ order′ : List ℕ) → CallResult → Type 0
-MessageKept core held known awaiting clocks operations contexts order stack responses tag m held′ known′ awaiting′ clocks′ operations′
-    contexts′ order′ r =
-    KeptBy (coreParts core held known awaiting clocks operations contexts order stack responses)
-    (coreParts (r .core) held′ known′ awaiting′ clocks′ operations′ contexts′ order′ stack responses) (messageCall tag m) (r .answer)
+abbrev pub MessageKept : Core → (held known awaiting clocks operations contexts order stack responses settled : List ℕ) → ℕ → Message
+    → (held′ known′ awaiting′ clocks′ operations′ contexts′ order′ settled′ : List ℕ) → CallResult → Type 0
+MessageKept core held known awaiting clocks operations contexts order stack responses settled tag m held′ known′ awaiting′ clocks′
+    operations′ contexts′ order′ settled′ r =
+    KeptBy (coreParts core held known awaiting clocks operations contexts order stack responses settled)
+    (coreParts (r .core) held′ known′ awaiting′ clocks′ operations′ contexts′ order′ stack responses settled′) (messageCall tag m)
+    (r .answer)

@@ -29,20 +29,21 @@ pub(crate) fn call(
     registers: &mut [u32; 64],
     saved: &mut [u64; 512],
     responses: &mut [u32; 512],
+    settled: &mut [u64; 8],
     s: &[u8],
     at: usize,
 ) -> EntryResult
     requires { ⌜ Inv (packed core counters (now held) (now known) (now awaiting) (now clocks) (now operations) (now contexts) (now order)
-        (now stack) (now registers) (now saved) (now responses)) ⌝ }
+        (now stack) (now registers) (now saved) (now responses) (now settled)) ⌝ }
     requires { ⌜ at < length (now s) ⌝ }
     ensures { λ r. ⌜ Done
         (packed core counters (now (held .entry)) (now (known .entry)) (now (awaiting .entry)) (now (clocks .entry))
         (now (operations .entry)) (now (contexts .entry)) (now (order .entry)) (now (stack .entry)) (now (registers .entry))
-        (now (saved .entry)) (now (responses .entry)))
+        (now (saved .entry)) (now (responses .entry)) (now (settled .entry)))
         (entryAt (now (s .entry)) at)
         (leadsTo r (now (held .exit)) (now (known .exit)) (now (awaiting .exit)) (now (clocks .exit)) (now (operations .exit))
         (now (contexts .exit)) (now (order .exit)) (now (stack .exit)) (now (registers .exit)) (now (saved .exit))
-        (now (responses .exit))) ⌝ }
+        (now (responses .exit)) (now (settled .exit))) ⌝ }
 {
     let tag = s[at];
     if tag == calls::ALL_DUE {
@@ -87,6 +88,7 @@ pub(crate) fn call(
         order,
         stack,
         responses,
+        settled,
         tag,
         message,
     );
@@ -111,15 +113,17 @@ fn message_call<'a>(
     order: &mut [u16; 512],
     stack: &'a [u16; 512],
     responses: &'a [u32; 512],
+    settled: &mut [u64; 8],
     tag: u8,
     message: Message,
 ) -> CallResult
     requires { ⌜ TakeCoreAsks core (now held) (now known) (now awaiting) (now clocks) (now operations) (now contexts) (now order) (now stack)
-        (now responses) ⌝ }
+        (now responses) (now settled) ⌝ }
     ensures { λ r. ⌜ MessageKept core (now (held .entry)) (now (known .entry)) (now (awaiting .entry)) (now (clocks .entry))
-        (now (operations .entry)) (now (contexts .entry)) (now (order .entry)) (now (stack .entry)) (now (responses .entry)) tag message
+        (now (operations .entry)) (now (contexts .entry)) (now (order .entry)) (now (stack .entry)) (now (responses .entry))
+        (now (settled .entry)) tag message
         (now (held .exit)) (now (known .exit)) (now (awaiting .exit)) (now (clocks .exit)) (now (operations .exit)) (now (contexts .exit))
-        (now (order .exit)) r ⌝ }
+        (now (order .exit)) (now (settled .exit)) r ⌝ }
 {
     let request = message.request;
     if tag == calls::INVOKE {
@@ -147,6 +151,7 @@ fn message_call<'a>(
         order,
         stack,
         responses,
+        settled,
         message,
     )
 }

@@ -49,11 +49,12 @@ pub fn run(
     registers: &mut [u32; 64],
     saved: &mut [u64; 512],
     responses: &mut [u32; 512],
+    settled: &mut [u64; 8],
 ) -> RunResult
     ensures { λ r. ⌜ RanList (now (s .entry)) (now (out .entry)) (now (out .exit)) r
         (packed (r .core) (r .counters) (now (held .exit)) (now (known .exit)) (now (awaiting .exit)) (now (clocks .exit))
         (now (operations .exit)) (now (contexts .exit)) (now (order .exit)) (now (stack .exit)) (now (registers .exit)) (now (saved .exit))
-        (now (responses .exit))) ⌝ }
+        (now (responses .exit)) (now (settled .exit))) ⌝ }
 {
     let panels = encoding::byte_at(s, calls::PANELS_AT);
     let own = encoding::byte_at(s, calls::OWN_AT);
@@ -69,6 +70,7 @@ pub fn run(
         registers,
         saved,
         responses,
+        settled,
         panels,
         PanelNo(own),
     );
@@ -99,6 +101,7 @@ pub fn run(
         registers,
         saved,
         responses,
+        settled,
         s,
         count,
         out,
@@ -129,23 +132,25 @@ fn run_all(
     registers: &mut [u32; 64],
     saved: &mut [u64; 512],
     responses: &mut [u32; 512],
+    settled: &mut [u64; 8],
     s: &[u8],
     count: usize,
     out: &mut [u8],
 ) -> EntriesResult
     requires { ⌜ Inv (packed core counters (now held) (now known) (now awaiting) (now clocks) (now operations) (now contexts) (now order)
-        (now stack) (now registers) (now saved) (now responses)) ⌝ }
+        (now stack) (now registers) (now saved) (now responses) (now settled)) ⌝ }
     requires { ⌜ count ≡ callCount (now s) ⌝ }
     requires { ⌜ Room (now out) 0 (answersBytes (model (packed core counters (now held) (now known) (now awaiting) (now clocks)
-        (now operations) (now contexts) (now order) (now stack) (now registers) (now saved) (now responses))) (entriesOf (now s))) ⌝ }
+        (now operations) (now contexts) (now order) (now stack) (now registers) (now saved) (now responses) (now settled)))
+        (entriesOf (now s))) ⌝ }
     ensures { λ r. ⌜ RanAll
         (packed core counters (now (held .entry)) (now (known .entry)) (now (awaiting .entry)) (now (clocks .entry))
         (now (operations .entry)) (now (contexts .entry)) (now (order .entry)) (now (stack .entry)) (now (registers .entry))
-        (now (saved .entry)) (now (responses .entry)))
+        (now (saved .entry)) (now (responses .entry)) (now (settled .entry)))
         (now (s .entry)) (now (out .entry)) (now (out .exit))
         (packed (r .core) (r .counters) (now (held .exit)) (now (known .exit)) (now (awaiting .exit)) (now (clocks .exit))
         (now (operations .exit)) (now (contexts .exit)) (now (order .exit)) (now (stack .exit)) (now (registers .exit)) (now (saved .exit))
-        (now (responses .exit))) ⌝ }
+        (now (responses .exit)) (now (settled .exit))) ⌝ }
 {
     let mut panel = core;
     let mut counted = counters;
@@ -167,6 +172,7 @@ fn run_all(
             registers,
             saved,
             responses,
+            settled,
             s,
             at,
         );

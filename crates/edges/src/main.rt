@@ -37,6 +37,7 @@ fn answers_to(list: &[u8]) -> [u8; CALLS * ANSWER_SIZE] {
     let mut registers = [0u32; 64];
     let mut saved = [0u64; 512];
     let mut responses = [0u32; 512];
+    let mut settled = [0u64; 8];
     driver::run(
         list,
         &mut answers,
@@ -51,6 +52,7 @@ fn answers_to(list: &[u8]) -> [u8; CALLS * ANSWER_SIZE] {
         &mut registers,
         &mut saved,
         &mut responses,
+        &mut settled,
     );
     answers
 }

@@ -5,8 +5,8 @@ use native.Mathlib.Nat.{zero-add}
 use mathlib.Core.Path.{_≡_, refl, sym, ap, subst, _∙_}
 use mathlib.Core.Bool.{Bool, true, false, not, _||_}
 use mathlib.Core.List.{List, map}
-use lib.ListN.{length, take, drop, getD, length-take, length-drop, List·getD-map}
-use lib.Seq.{take-take, getD-take, getD-drop, length-slice}
+use lib.ListN.{length, take, drop, getD, length-take}
+use lib.Seq.{take-take, length-slice}
 use lib.Dec.{eqb, ltb}
 use borrow.Author.Tests.{eq-eqb, ne-eqb, eqb-true, eqb-false, ltb-true, ltb-false}
 use Rattle.lists.specs.Lists.{one, count, insert, commonStart}
@@ -15,7 +15,6 @@ use Rattle.lists.proofs.BoolLaws.{true-not-false}
 use Rattle.lists.proofs.ListLaws.{one-false, commonStart-most}
 use Rattle.lists.proofs.AllLaws.{all-weaken, all-take, all-drop, all-insertAt, none-all}
 use Rattle.lists.proofs.MapLaws.{map-take, map-drop, map-insertAt, count-map, leading-map, leading-agree, commonStart-map, map-agree}
-use Rattle.lists.proofs.OrderedLaws.{ordered-at}
 use Rattle.lists.proofs.StartLaws.{commonStart-inserted}
 use Rattle.lists.proofs.PlaceLaws.{leading-most, insert-place, take-insertAt, drop-insertAt, count-insertAt}
 use Rattle.numbers.specs.declared.Clock.{Clock}
@@ -31,6 +30,7 @@ use Rattle.request.proofs.OrderLaws.{before-transitive}
 use Rattle.numbers.proofs.NumberLaws.{sameNumber-self, sameNumber-sym, slot-fits, number-of-slot}
 use Rattle.sets.proofs.SetLaws.{member-join, join-length}
 use Rattle.slots.specs.Slots.{IsSlot, OrderAsks, comesBefore}
+use Rattle.slots.specs.Marks.{Marks}
 use Rattle.slots.specs.Insertion.{PlaceAsks, placeFor, InsertionAsks, Inserted}
 use Rattle.slots.proofs.SlotLaws.{part-of, same-slot, comes-before-order}
 use Rattle.creek.specs.Plan.{Plan, order, hasNumber, knownWith, entered}
@@ -45,7 +45,7 @@ use Rattle.store.proofs.RequestLaws.{stored-other, stored-long}
 use Rattle.replica.specs.internal.Model.{orderSlots, boardSlots, orderOf, boardOf, planOf, bookOf, model}
 use Rattle.replica.specs.internal.Model.{Counts, Lengths, Log, Inv}
 use Rattle.entering.specs.Entering.{Enters, OwnSoFar, Entered}
-use Rattle.replica.proofs.ModelLaws.{order-planned, plan-sound, length-order-slots, length-order, order-slot, executed-follows}
+use Rattle.replica.proofs.ModelLaws.{order-planned, length-order-slots, length-order, order-slot, tentative-ordered, executed-follows}
 use Rattle.replica.proofs.RequestLaws.{tentativeSlots, same-request, count-held}
 use Rattle.replica.proofs.States.{enlarged}
 
@@ -123,15 +123,6 @@ module _ (p : State) (x : Request) (inv : Inv p) (new : Enters p x) where
   unfolding requestAt
   comes-before t h = comes-before-order x (at-before t) (p .clocks) t (new .number) h refl refl
 
-  tentative-at : (k : ℕ) → p .committed ≤ k → k < p .ordered
-      → getD tentative-before (k - p .committed) (at-before 0) ≡ at-before (getD (p .order) k 0)
-  tentative-at k low high =
-      let place : p .committed + (k - p .committed) ≡ k = omega arith in
-      getD-drop (p .committed) (orderOf p) (k - p .committed) (at-before 0)
-      ∙ ap (λ (n : ℕ). getD (orderOf p) n (at-before 0)) place
-      ∙ List·getD-map at-before (orderSlots p) k 0
-      ∙ ap at-before (getD-take (p .ordered) (p .order) k 0 high)
-
   module _ (i j : ℕ) (low : p .committed ≤ i) (high : j < p .ordered) where
     below : i ≤ j → (i ≡ j → ⊥) → i < j
     below up apart = go (ltb i j) refl
@@ -139,13 +130,6 @@ module _ (p : State) (x : Request) (inv : Inv p) (new : Enters p x) where
         go : (b : Bool) → ltb i j ≡ b → i < j
         go true h = ltb-true i j h
         go false h = absurd (apart (omega (arith, ltb-false i j h)))
-
-    in-clock-order : i < j → before (at-before (getD (p .order) i 0)) (at-before (getD (p .order) j 0)) ≡ true
-    unfolding planOf
-    in-clock-order h =
-        rw (tentative-at i low (omega arith), tentative-at j (omega arith) high) at
-        (ordered-at before tentative-before (plan-sound p inv .clock-order) (i - p .committed) (j - p .committed) (at-before 0)
-        (omega arith) (omega (arith, length-order p inv, length-drop (p .committed) (orderOf p))))
 
     -- once it comes before one of the tentative requests, it comes before all behind that
     split-at : i ≤ j → comesBefore (p .clocks) (x .clock .0) (slot x) (getD (p .order) i 0) ≡ true
@@ -156,7 +140,8 @@ module _ (p : State) (x : Request) (inv : Inv p) (new : Enters p x) where
         go true s = ap (λ (k : ℕ). comesBefore (p .clocks) (x .clock .0) (slot x) (getD (p .order) k 0)) (sym (eqb-true i j s)) ∙ e
         go false s =
             sym (comes-before _ (order-slot p inv j high))
-            ∙ before-transitive x _ _ (comes-before _ (order-slot p inv i (omega arith)) ∙ e) (in-clock-order (below up (eqb-false i j s)))
+            ∙ before-transitive x _ _ (comes-before _ (order-slot p inv i (omega arith)) ∙ e)
+            (tentative-ordered p inv i j low (below up (eqb-false i j s)) high)
 
   -- the place by clock readings and slots is the place in clock order
   behind-order : behind p x ≡ leading (λ y. not (before x y)) tentative-before
@@ -286,6 +271,16 @@ module _ (p : State) (x : Request) (inv : Inv p) (new : Enters p x) where
             omega (arith, one-false (ap (member (p .held)) number ∙ new .absent))
         go false e = zero-add (one (member (p .held) (numberOf t)))
 
+    -- the committed requests are those that were
+    settled-after : Marks new-order (p .committed) (p .settled .words)
+    settled-after =
+        let same : take (p .committed) new-order ≡ take (p .committed) (p .order) =
+        sym (take-take (p .committed) (p .ordered + 1) new-order (omega (arith, inv .counts)))
+        ∙ ap (take (p .committed)) (ins .first)
+        ∙ take-insertAt (p .committed) (behind p x) (slot x) (orderSlots p) (omega (arith, inv .counts, length-order-slots p inv))
+        ∙ take-take (p .committed) (p .ordered) (p .order) (inv .counts .committed) in
+        record { marked = λ t h. ap (count (eqb t)) same ∙ inv .settled .marked t h }
+
     counts-after : Counts after
     counts-after =
         let few = commonStart-most eqb (take (p .executed) (p .stack)) (take (p .ordered + 1) new-order) in
@@ -307,6 +302,7 @@ module _ (p : State) (x : Request) (inv : Inv p) (new : Enters p x) where
       responses = inv .lengths .responses;
       held = ap (λ (s : Context). length (s .words)) joined ∙ join-length (p .held) (x .number) ∙ inv .lengths .held;
       awaiting = long;
+      settled = inv .lengths .settled;
     }
 
     invariant-after : OwnSoFar (p .own .0) (entered (planOf p) x) (setOf awaiting) events clock → Sound (model after) → Inv after
@@ -314,6 +310,7 @@ module _ (p : State) (x : Request) (inv : Inv p) (new : Enters p x) where
       counts = counts-after;
       lengths = lengths-after (so-far .words);
       held = held-after;
+      settled = settled-after;
       order-slots = order-slots-after;
       board-slots = inv .board-slots;
       log = subst (λ (l : List Request). Log l (p .registers) (p .saved) (p .responses)) (sym board-after) (inv .log);

@@ -138,6 +138,7 @@ entering l awaiting events clock p = record {
   registers = p .registers;
   saved = p .saved;
   responses = p .responses;
+  settled = p .settled;
 }
 
 -- a panel with those parts
@@ -212,6 +213,7 @@ InvokeKept own committed o l i o′ l′ a = KeptBy (invokeParts own committed o
 abbrev pub coreParts : Core → (held known awaiting clocks operations contexts order : List ℕ) → State → State
 coreParts core held known awaiting clocks operations contexts order p =
     packed core (p .counters) held known awaiting clocks operations contexts order (p .stack) (p .registers) (p .saved) (p .responses)
+    (p .settled .words)
 
 abbrev pub InvokeCoreAsks : Core → (held known awaiting clocks operations contexts order : List ℕ) → Type 0
 InvokeCoreAsks core held known awaiting clocks operations contexts order =

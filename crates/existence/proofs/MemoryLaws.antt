@@ -5,15 +5,19 @@ use mathlib.Core.Path.{_≡_, sym, ap, _∙_}
 use mathlib.Core.Bool.{true}
 use mathlib.Core.List.{List, map, reverse, reverse-reverse}
 use lib.ListN.{length, take, drop, replicate, length-append, length-map, length-replicate}
-use lib.Seq.{take-at, take-append-seam, drop-append-seam}
-use Rattle.lists.specs.Lists.{count}
+use lib.Dec.{eqb}
+use lib.Seq.{take-at, take-take, take-append-seam, drop-append-seam}
+use Rattle.lists.specs.Lists.{one, count}
 use Rattle.lists.specs.Places.{All}
-use Rattle.lists.proofs.ListLaws.{count-all}
+use Rattle.lists.proofs.ListLaws.{count-all, count-append}
+use Rattle.lists.proofs.MapLaws.{map-take}
 use Rattle.lists.proofs.AllLaws.{all-weaken, none-all}
 use Rattle.numbers.specs.declared.Number.{Number}
 use Rattle.request.specs.declared.Request.{Request}
 use Rattle.sets.specs.Sets.{member}
 use Rattle.slots.specs.Slots.{mostSlots}
+use Rattle.slots.specs.Marks.{Marks}
+use Rattle.slots.proofs.SlotLaws.{in-words-member}
 use Rattle.store.specs.Requests.{mostWords}
 use Rattle.creek.specs.Plan.{order, lastEvent, lastClock}
 use Rattle.creek.specs.Execution.{Execution, operations}
@@ -22,7 +26,7 @@ use Rattle.creek.specs.Calls.{Replica}
 use Rattle.creek.specs.internal.Sound.{Sound}
 use Rattle.creek.specs.internal.SoundAwaiting.{SoundAwaiting}
 use Rattle.replica.specs.internal.Model.{orderSlots, boardSlots, orderOf, boardOf, planOf, bookOf, model, Inv}
-use Rattle.existence.specs.Memory.{slotIn, slotsOf, heldBy, boardBy, memoryOf}
+use Rattle.existence.specs.Memory.{slotIn, slotsOf, numberSet, heldBy, boardBy, memoryOf}
 use Rattle.existence.specs.Existence.{RequestFits}
 use Rattle.existence.proofs.SavedLaws.{board-log}
 use Rattle.existence.proofs.TableLaws.{table-length}
@@ -107,6 +111,26 @@ module _ (r : Replica) (s : Storable r) where
 
   -- ---- the invariant
 
+  committed-held : Among (s .sound .plan .held) (s .fit) (r .book .plan .committed)
+  committed-held test = omega (arith, count-append test (r .book .plan .committed) (r .book .plan .tentative))
+
+  committed-slots-are : take (length (r .book .plan .committed)) (slotsOf (heldBy r)) ≡ map slotIn (r .book .plan .committed)
+  committed-slots-are =
+      let committed = r .book .plan .committed in
+      let tentative = r .book .plan .tentative in
+      sym (take-take (length committed) (length (heldBy r)) (slotsOf (heldBy r)) (omega (arith, length-append committed tentative)))
+      ∙ ap (take (length committed)) (slots-first (heldBy r))
+      ∙ sym (map-take slotIn (length committed) (heldBy r))
+      ∙ ap (map slotIn) (take-append-seam committed tentative)
+
+  settled-marks : Marks (slotsOf (heldBy r)) (length (r .book .plan .committed)) (numberSet (r .book .plan .committed) .words)
+  settled-marks = record {
+    marked = λ slot is.
+        ap (count (eqb slot)) committed-slots-are
+        ∙ slots-counted (s .sound .plan .held) (s .fit) (r .book .plan .committed) committed-held slot is
+        ∙ ap one (sym (in-words-member (numberSet (r .book .plan .committed)) slot is));
+  }
+
   board-fits : All RequestFits (boardBy r)
   board-fits = all-weaken fits (boardBy r) (none-all isWide (boardBy r) (omega (arith, on-board isWide, s .fit)))
 
@@ -132,8 +156,10 @@ module _ (r : Replica) (s : Storable r) where
       responses = table-length mostSlots _;
       held = numbers-length (s .sound .plan .held) (s .fit) (heldBy r);
       awaiting = s .awaiting .words;
+      settled = numbers-length (s .sound .plan .held) (s .fit) (r .book .plan .committed);
     };
-    held = λ slot is. ap (count _) order-slots-are ∙ slots-counted (s .sound .plan .held) (s .fit) slot is;
+    held = λ slot is. ap (count _) order-slots-are ∙ slots-counted (s .sound .plan .held) (s .fit) (heldBy r) (λ test. omega arith) slot is;
+    settled = settled-marks;
     order-slots = rw order-slots-are (all-slots (s .sound .plan .held) (s .fit) (heldBy r) (λ test. omega arith));
     board-slots = rw board-slots-are (all-slots (s .sound .plan .held) (s .fit) (boardBy r) on-board);
     log = rw board-is (board-log (boardBy r) (omega (arith, board-few, s .sound .few)) board-fits);

@@ -121,5 +121,6 @@ module _ {panels own : ℕ} {known : Context} {l : List Request} (h : Held panel
       ∙ ap (sameNumber (numberOf slot)) (number-of-slot (x .number) (number-good x xs among)) in
       λ i. one (same i) + by-slot slot is xs (fewer x xs among) i
 
-  pub slots-counted : (slot : ℕ) → IsSlot slot → count (eqb slot) (map slotIn l) ≡ one (member (numberSet l) (numberOf slot))
-  slots-counted slot is = by-slot slot is l (λ test. omega arith) ∙ counted (numberOf slot) l (λ test. omega arith)
+  pub slots-counted : (m : List Request) → Among m → (slot : ℕ) → IsSlot slot
+      → count (eqb slot) (map slotIn m) ≡ one (member (numberSet m) (numberOf slot))
+  slots-counted m among slot is = by-slot slot is m among ∙ counted (numberOf slot) m among

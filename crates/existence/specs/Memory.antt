@@ -101,4 +101,5 @@ memoryOf r = record {
   registers = replay (operations (boardBy r));
   saved = savedOn (boardBy r);
   responses = responsesOn (boardBy r);
+  settled = numberSet (r .book .plan .committed);
 }

@@ -42,23 +42,25 @@ pub fn take<'a>(
     order: &mut [u16; 512],
     stack: &'a [u16; 512],
     responses: &'a [u32; 512],
+    settled: &mut [u64; 8],
     m: Message,
 ) -> Reply
     requires { ⌜ TakeAsks panels own
-        (lentNow committed ordered executed commits held known awaiting clocks operations contexts order stack responses) ⌝ }
+        (lentNow committed ordered executed commits held known awaiting clocks operations contexts order stack responses settled) ⌝ }
     ensures { λ r. ⌜ Taken panels own
-        (lentEntry committed ordered executed commits held known awaiting clocks operations contexts order stack responses) (said m)
-        (lentExit committed ordered executed commits held known awaiting clocks operations contexts order stack responses) (replyAnswer r) ⌝ }
+        (lentEntry committed ordered executed commits held known awaiting clocks operations contexts order stack responses settled) (said m)
+        (lentExit committed ordered executed commits held known awaiting clocks operations contexts order stack responses settled)
+        (replyAnswer r) ⌝ }
 {
     let x = m.request;
     let subject = m.subject;
     match subject {
         Subject::Request => {
-            let settled = *committed;
+            let count = *committed;
             let refusal = entering::deliver(
                 panels,
                 own,
-                settled,
+                count,
                 ordered,
                 executed,
                 held,
@@ -85,11 +87,13 @@ pub fn take<'a>(
                 held,
                 known,
                 awaiting,
+                clocks,
                 operations,
                 contexts,
                 order,
                 stack,
                 responses,
+                settled,
                 x.number,
             )
         }
@@ -108,14 +112,16 @@ pub fn take_with_core<'a>(
     order: &mut [u16; 512],
     stack: &'a [u16; 512],
     responses: &'a [u32; 512],
+    settled: &mut [u64; 8],
     m: Message,
 ) -> CallResult
     requires { ⌜ TakeCoreAsks core (now held) (now known) (now awaiting) (now clocks) (now operations) (now contexts) (now order)
-        (now stack) (now responses) ⌝ }
+        (now stack) (now responses) (now settled) ⌝ }
     ensures { λ r. ⌜ TakenByCore core (now (held .entry)) (now (known .entry)) (now (awaiting .entry)) (now (clocks .entry))
-        (now (operations .entry)) (now (contexts .entry)) (now (order .entry)) (now (stack .entry)) (now (responses .entry)) (said m)
+        (now (operations .entry)) (now (contexts .entry)) (now (order .entry)) (now (stack .entry)) (now (responses .entry))
+        (now (settled .entry)) (said m)
         (now (held .exit)) (now (known .exit)) (now (awaiting .exit)) (now (clocks .exit)) (now (operations .exit))
-        (now (contexts .exit)) (now (order .exit)) r ⌝ }
+        (now (contexts .exit)) (now (order .exit)) (now (settled .exit)) r ⌝ }
 {
     let mut committed = core.committed;
     let mut ordered = core.ordered;
@@ -137,6 +143,7 @@ pub fn take_with_core<'a>(
         order,
         stack,
         responses,
+        settled,
         m,
     );
     let mut after = core;

@@ -40,12 +40,13 @@ pub fn receive<'a>(
     order: &mut [u16; 512],
     stack: &'a [u16; 512],
     responses: &'a [u32; 512],
+    settled: &mut [u64; 8],
 ) -> Receipt
     requires { ⌜ TakeAsks panels own
-        (lentNow committed ordered executed commits held known awaiting clocks operations contexts order stack responses) ⌝ }
+        (lentNow committed ordered executed commits held known awaiting clocks operations contexts order stack responses settled) ⌝ }
     ensures { λ r. ⌜ ReceiveKept panels own
-        (lentEntry committed ordered executed commits held known awaiting clocks operations contexts order stack responses) (readAt (now (bytes .entry)) at)
-        (lentExit committed ordered executed commits held known awaiting clocks operations contexts order stack responses) r ⌝ }
+        (lentEntry committed ordered executed commits held known awaiting clocks operations contexts order stack responses settled) (readAt (now (bytes .entry)) at)
+        (lentExit committed ordered executed commits held known awaiting clocks operations contexts order stack responses settled) r ⌝ }
 {
     let head = wire::head_at(bytes, at);
     let found = head.answer;
@@ -70,6 +71,7 @@ pub fn receive<'a>(
                 order,
                 stack,
                 responses,
+                settled,
             );
             let answer = replica::answer_of(reply);
             Receipt {
@@ -102,13 +104,14 @@ fn take_at<'a>(
     order: &mut [u16; 512],
     stack: &'a [u16; 512],
     responses: &'a [u32; 512],
+    settled: &mut [u64; 8],
 ) -> Reply
     requires { ⌜ GoodHead kind (now bytes) at ⌝ }
     requires { ⌜ TakeAsks panels own
-        (lentNow committed ordered executed commits held known awaiting clocks operations contexts order stack responses) ⌝ }
+        (lentNow committed ordered executed commits held known awaiting clocks operations contexts order stack responses settled) ⌝ }
     ensures { λ r. ⌜ Taken panels own
-        (lentEntry committed ordered executed commits held known awaiting clocks operations contexts order stack responses) (messageAt kind (now (bytes .entry)) at)
-        (lentExit committed ordered executed commits held known awaiting clocks operations contexts order stack responses) (replyAnswer r) ⌝ }
+        (lentEntry committed ordered executed commits held known awaiting clocks operations contexts order stack responses settled) (messageAt kind (now (bytes .entry)) at)
+        (lentExit committed ordered executed commits held known awaiting clocks operations contexts order stack responses settled) (replyAnswer r) ⌝ }
 {
     match kind {
         Kind::Weak => hear_at(
@@ -130,6 +133,7 @@ fn take_at<'a>(
             order,
             stack,
             responses,
+            settled,
         ),
         Kind::Strong => hear_at(
             bytes,
@@ -150,6 +154,7 @@ fn take_at<'a>(
             order,
             stack,
             responses,
+            settled,
         ),
         Kind::Settlement => {
             let number = reading::number_at(bytes, at);
@@ -163,11 +168,13 @@ fn take_at<'a>(
                 held,
                 known,
                 awaiting,
+                clocks,
                 operations,
                 contexts,
                 order,
                 stack,
                 responses,
+                settled,
                 number,
             )
         }
@@ -194,25 +201,26 @@ fn hear_at<'a>(
     order: &mut [u16; 512],
     stack: &'a [u16; 512],
     responses: &'a [u32; 512],
+    settled: &mut [u64; 8],
 ) -> Reply
     requires { ⌜ at + size weakWidths + contextSize strong ≤ length (now bytes) ⌝ }
     requires { ⌜ TakeAsks panels own
-        (lentNow committed ordered executed commits held known awaiting clocks operations contexts order stack responses) ⌝ }
+        (lentNow committed ordered executed commits held known awaiting clocks operations contexts order stack responses settled) ⌝ }
     ensures { λ r. ⌜ heardAt panels own
-        (lentEntry committed ordered executed commits held known awaiting clocks operations contexts order stack responses)
+        (lentEntry committed ordered executed commits held known awaiting clocks operations contexts order stack responses settled)
         (requestFrom (decode weakWidths (now (bytes .entry)) at) strong (contextIn strong (now (bytes .entry)) at))
-        (lentExit committed ordered executed commits held known awaiting clocks operations contexts order stack responses) (replyAnswer r) ⌝ }
+        (lentExit committed ordered executed commits held known awaiting clocks operations contexts order stack responses settled) (replyAnswer r) ⌝ }
 {
     let mut words = [0u64; 8];
     put_context(&mut words, bytes, at, strong);
     let number = reading::number_at(bytes, at);
     let clock = reading::clock_at(bytes, at);
     let asked = reading::asked_at(bytes, at, strong);
-    let settled = *committed;
+    let standing = *committed;
     let refusal = entering::deliver(
         panels,
         own,
-        settled,
+        standing,
         ordered,
         executed,
         held,

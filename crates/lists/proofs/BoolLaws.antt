@@ -13,6 +13,12 @@ both-true false b e = true-not-false e refl
 pub both : {a b : Bool} → a ≡ true → b ≡ true → a && b ≡ true
 both {a} {b} e f = ap (λ (t : Bool). t && b) e ∙ f
 
+pub both-swap : (a b : Bool) → a && b ≡ b && a
+both-swap true true = refl
+both-swap true false = refl
+both-swap false true = refl
+both-swap false false = refl
+
 pub neither-true : (a b : Bool) → a || b ≡ false → (a ≡ false) × (b ≡ false)
 neither-true true b e = true-not-false refl e
 neither-true false b e = (refl, e)

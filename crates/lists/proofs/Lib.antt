@@ -8,3 +8,4 @@ pub mod StartLaws
 pub mod MapLaws
 pub mod StepLaws
 pub mod HalvesLaws
+pub mod TallyLaws

@@ -87,6 +87,16 @@ module _ {A : Type 0} where
       step true m n e = omega arith
       step false m n e = omega arith
 
+  -- those that pass and those that do not are all
+  pub count-others : (p : A → Bool) (l : List A) → count p l + count (λ x. not (p x)) l ≡ length l
+  count-others p [] = refl
+  count-others p (x ∷ xs) = step (p x) (count-others p xs)
+    where
+      step : (b : Bool) → count p xs + count (λ x. not (p x)) xs ≡ length xs
+          → one b + count p xs + (one (not b) + count (λ x. not (p x)) xs) ≡ suc (length xs)
+      step true h = omega arith
+      step false h = omega arith
+
   -- ---- the two ways to say that some element passes
 
   pub passes-count : (p : A → Bool) (l : List A) → somePasses p l ≡ true → 1 ≤ count p l

@@ -7,7 +7,7 @@ use mathlib.Core.Path.{_≡_, refl, sym, ap, _∙_}
 use mathlib.Core.Bool.{Bool, true, false, not, cond}
 use mathlib.Core.List.{List, [], _∷_, _++_, append-nil}
 use lib.ListN.{length, take, drop, getD, set, replicate, take-append-drop, drop-of-length-le}
-use lib.Seq.{sets, sets-eq, slice, take-take, take-add, drop-drop, drop-append-le, drop-at, getD-drop, length-take-le, slice-empty}
+use lib.Seq.{sets, sets-eq, slice, take-take, take-add, drop-drop, drop-append-le, drop-at, getD-drop, length-take-le, slice-cons, slice-empty}
 use lib.Dec.{eqb}
 use borrow.Author.Tests.{eqb-true}
 use Rattle.lists.specs.Lists.{one, count, consIf, keep, insert}
@@ -55,6 +55,15 @@ module _ {A : Type 0} where
     -- two lists that agree from place k on have the same part k..n
     pub slice-further : (s t : List A) → k ≤ length s → k ≤ length t → drop k s ≡ drop k t → slice k n s ≡ slice k n t
     slice-further s t first second e = slice-from s first ∙ ap (take (n - k)) e ∙ sym (slice-from t second)
+
+  -- the part i..k + 1 is the part i..k, then what stands at k
+  pub slice-last : (i k : ℕ) (l : List A) (d : A) → i ≤ k → k < length l → slice i (k + 1) l ≡ slice i k l ++ (getD l k d ∷ [])
+  slice-last i k l d low inside =
+      let next : suc k ≡ k + 1 = omega arith in
+      slice-split k (k + 1) (omega arith) i l low (omega arith)
+      ∙ ap (λ (r : List A). slice i k l ++ r)
+      (slice-cons k (k + 1) l d (omega arith) (omega arith)
+      ∙ ap (λ (j : ℕ). getD l k d ∷ slice j (k + 1) l) next ∙ ap (λ (r : List A). getD l k d ∷ r) (slice-empty (k + 1) l))
 
   -- ---- the place
 

@@ -1,17 +1,18 @@
 -- Laws of the start of a list: an element at a place and whether a start reaches it; the common start of two lists.
 use Prim.Native.Nat.{ℕ, zero, suc, _+_, _-_, _≤_, _<_, min}
 use native.Mathlib.Omega.{arith}
+use native.Mathlib.Nat.{le-refl}
 use mathlib.Core.Path.{_≡_, refl, sym, ap, _∙_}
 use mathlib.Core.Bool.{Bool, true, false, cond}
 use mathlib.Core.List.{List, [], _∷_, _++_}
 use lib.ListN.{length, take, drop, getD, length-take, length-drop, take-append-drop}
-use lib.Seq.{slice, getD-take, getD-drop, take-take, take-append-le, take-append-add, take-length, length-take-le}
+use lib.Seq.{slice, slice-cons, slice-empty, getD-take, getD-drop, take-take, take-append-le, take-append-add, take-length, length-take-le}
 use lib.Dec.{eqb, leb, ltb, eqb·zero-suc, eqb·suc-suc}
 use borrow.Author.Tests.{leb-true, leb-false, ltb-true, ltb-false, le-leb, lt-leb}
 use Rattle.lists.specs.Lists.{count, somePasses, commonStart}
 use Rattle.lists.specs.Places.{All, insertAt}
 use Rattle.lists.proofs.BoolLaws.{same-test}
-use Rattle.lists.proofs.ListLaws.{one-true, count-append, passes-count, commonStart-most, commonStart-longest}
+use Rattle.lists.proofs.ListLaws.{one-true, one-false, count-append, passes-count, commonStart-most, commonStart-longest}
 
 -- ---- an element at a place
 
@@ -46,6 +47,27 @@ module _ {A : Type 0} where
             let there : p (getD (drop n l) (k - n) d) ≡ true = ap p (getD-drop n l (k - n) d ∙ ap (λ (j : ℕ). getD l j d) place) ∙ e in
             let behind = count-at (drop n l) (k - n) d (simp length-drop (omega arith)) there in
             lt-leb 1 (count p (take n l)) (omega (arith, parts))
+
+-- a place of from..to whose element passes
+pub record Found {A : Type 0} (p : A → Bool) (l : List A) (d : A) (from to : ℕ) : Type 0 where
+  pub at : ℕ
+  pub low : from ≤ at
+  pub high : at < to
+  pub passes : p (getD l at d) ≡ true
+
+-- where some of from..to pass, there is one
+module _ {A : Type 0} (p : A → Bool) (l : List A) (d : A) (to : ℕ) (inside : to ≤ length l) where
+  pub some-found : (n from : ℕ) → from + n ≡ to → 1 ≤ count p (slice from to l) → Found p l d from to
+  some-found zero from e some =
+      let end : from ≡ to = omega arith in
+      absurd (omega (arith, some, ap (λ (k : ℕ). count p (slice k to l)) end, ap (count p) (slice-empty to l)))
+  some-found (suc n) from e some = go (p (getD l from d)) refl (some-found n (suc from) (omega arith))
+    where
+      go : (b : Bool) → p (getD l from d) ≡ b → (1 ≤ count p (slice (suc from) to l) → Found p l d (suc from) to) → Found p l d from to
+      go true f further = record { at = from; low = le-refl from; high = omega arith; passes = f }
+      go false f further =
+          let later = further (omega (arith, some, ap (count p) (slice-cons from to l d (omega arith) inside), one-false f)) in
+          record { at = later .at; low = omega (arith, later .low); high = later .high; passes = later .passes }
 
 -- ---- the common start of two lists that agree up to a place, or behind one
 

@@ -36,11 +36,13 @@ settlement h = record {
   held = h .held;
   known = h .known;
   awaiting = h .awaiting;
+  clocks = h .clocks;
   operations = h .operations;
   contexts = h .contexts;
   order = h .order;
   stack = h .stack;
   responses = h .responses;
+  settled = h .settled;
 }
 
 -- to a message that is received
@@ -59,6 +61,7 @@ reception h = record {
   order = h .order;
   stack = h .stack;
   responses = h .responses;
+  settled = h .settled;
 }
 
 -- to an undo, and to executions

@@ -47,7 +47,7 @@ panelFields =
     placed (UInt w64 ∷ UInt w64 ∷ UInt w64 ∷ UInt w64 ∷ UInt w32 ∷ UInt w32 ∷ Cs.the-row ∷ UInt w8 ∷ Pa.the-row ∷ UInt w8 ∷
     Array (UInt w64) 8 ∷ Array (UInt w64) 8 ∷ Array (UInt w64) 8 ∷ Array (UInt w32) 512 ∷ Array (UInt w64) 512 ∷
     Array (UInt w64) 4096 ∷ Array (UInt w16) 512 ∷ Array (UInt w16) 512 ∷ Array (UInt w32) 64 ∷ Array (UInt w64) 512 ∷
-    Array (UInt w32) 512 ∷ []) ms zero
+    Array (UInt w32) 512 ∷ Array (UInt w64) 8 ∷ []) ms zero
 
 -- the places of the fields among them
 abbrev pub committed-field : ℕ
@@ -113,6 +113,9 @@ saved-field = 19
 abbrev pub responses-field : ℕ
 responses-field = 20
 
+abbrev pub settled-field : ℕ
+settled-field = 21
+
 abbrev pub parts : Panel → AllHere panelFields
 parts p = T.struct .as-values p
 
@@ -128,7 +131,7 @@ module _ {M : Type 1} (𝓤 : URA M) (H : Heap 𝓤) (A : Atoms 𝓤) (W : Given
     same : (p : Panel) → partsAt t ms zero (T.the-type .to p) b o ≡ all-fields b o t panelFields (parts p)
     unfolding partOf
     same p = λ i. partsAt t ms zero
-        (p .committed, (p .ordered, (p .executed, (p .stacked, (p .commits, (p .clock, (Cs.the-type .to (p .counters), (p .panels, (Pa.the-type .to (p .own), (p .events, (map-id (p .held) i, (map-id (p .known) i, (map-id (p .awaiting) i, (map-id (p .clocks) i, (map-id (p .operations) i, (map-id (p .contexts) i, (map-id (p .order) i, (map-id (p .stack) i, (map-id (p .registers) i, (map-id (p .saved) i, (map-id (p .responses) i, tt))))))))))))))))))))) b o
+        (p .committed, (p .ordered, (p .executed, (p .stacked, (p .commits, (p .clock, (Cs.the-type .to (p .counters), (p .panels, (Pa.the-type .to (p .own), (p .events, (map-id (p .held) i, (map-id (p .known) i, (map-id (p .awaiting) i, (map-id (p .clocks) i, (map-id (p .operations) i, (map-id (p .contexts) i, (map-id (p .order) i, (map-id (p .stack) i, (map-id (p .registers) i, (map-id (p .saved) i, (map-id (p .responses) i, (map-id (p .settled) i, tt)))))))))))))))))))))) b o
 
     apart : (p : Panel) → ent 𝓤 (sem 𝓤 H A (partAt T.the-row t p b o)) (sep 𝓤 (sem 𝓤 H A (all-fields b o t panelFields (parts p))) Back)
     unfolding partOf

@@ -29,6 +29,7 @@ memory p = record {
   registers = p .registers;
   saved = p .saved;
   responses = p .responses;
+  settled = setOf (p .settled);
 }
 
 -- all due steps with that result led to that state

@@ -46,6 +46,7 @@ pub struct Panel {
     registers: [u32; 64],
     saved: [u64; 512],
     responses: [u32; 512],
+    settled: [u64; 8],
 }
 
 // Makes the lent panel one of a shift's first moment; a refused one is a one-panel shop, panel 0. The answer is the refusal.
@@ -73,6 +74,7 @@ pub extern "C" fn mizzencord_fresh(p: &mut Panel, panels: u8, own: PanelNo) -> u
         &mut p.registers,
         &mut p.saved,
         &mut p.responses,
+        &mut p.settled,
         panels,
         own,
     );
@@ -142,11 +144,13 @@ pub extern "C" fn mizzencord_commit(p: &mut Panel, n: Number) -> Answer
         &p.held,
         &mut p.known,
         &mut p.awaiting,
+        &p.clocks,
         &p.operations,
         &p.contexts,
         &mut p.order,
         &p.stack,
         &p.responses,
+        &mut p.settled,
         n,
     )
 }
@@ -175,6 +179,7 @@ pub extern "C" fn mizzencord_receive(p: &mut Panel, bytes: &[u8], at: usize) -> 
         &mut p.order,
         &p.stack,
         &p.responses,
+        &mut p.settled,
     )
 }
 

@@ -39,6 +39,7 @@ pub extern "C" fn mizzencord_run(calls: &[u8], out: &mut [u8]) -> ListResult
     let mut registers = [0u32; 64];
     let mut saved = [0u64; 512];
     let mut responses = [0u32; 512];
+    let mut settled = [0u64; 8];
     let done = driver::run(
         calls,
         out,
@@ -53,6 +54,7 @@ pub extern "C" fn mizzencord_run(calls: &[u8], out: &mut [u8]) -> ListResult
         &mut registers,
         &mut saved,
         &mut responses,
+        &mut settled,
     );
     if done.room {
         return ListResult {

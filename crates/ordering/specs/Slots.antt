@@ -1,7 +1,7 @@
 -- Slots: their table, what may be asked of an order of slots, clock order by slots, sets of numbers by slots.
 use Prim.Native.Nat.{ℕ, _*_, _/_, _%_, _<_, _≤_}
 use mathlib.Core.Path.{_≡_}
-use mathlib.Core.Bool.{Bool}
+use mathlib.Core.Bool.{Bool, true}
 use mathlib.Core.List.{List, [], _∷_}
 use lib.ListN.{length, getD}
 use lib.Seq.{slice}
@@ -54,6 +54,12 @@ pub record PartsAsk (xs : List ℕ) (n : ℕ) (ys : List ℕ) (m at : ℕ) : Typ
 -- the request of clock reading c and slot s comes before the one in slot t in clock order: by clock reading, then slot
 unfoldable pub comesBefore : List ℕ → ℕ → ℕ → ℕ → Bool
 comesBefore clocks c s t = lexicographic c (getD clocks t 0) (ltb s t)
+
+-- the slots at places from..to stand in clock order
+pub record InOrder (clocks order : List ℕ) (from to : ℕ) : Type 0 where
+  pub rising :
+      (i j : ℕ) → from ≤ i → i < j → j < to
+      → comesBefore clocks (getD clocks (getD order i 0) 0) (getD order i 0) (getD order j 0) ≡ true
 
 -- ---- sets of numbers
 

@@ -11,12 +11,14 @@ use Rattle.lists.proofs.BoolLaws.{both, both-true, neither, neither-true, true-
 use Rattle.numbers.specs.declared.PanelNo.{PanelNo}
 use Rattle.numbers.specs.Numbers.{mostPanels}
 use Rattle.request.specs.Refusal as refused
+use Rattle.sets.specs.Sets.{emptySet}
 use Rattle.sets.proofs.SetLaws.{member-empty}
 use Rattle.registers.proofs.ReplayLaws.{replay-nothing}
 use Rattle.creek.specs.Plan.{lastEvent, lastClock}
 use Rattle.creek.specs.Book.{emptyBook}
 use Rattle.creek.specs.Calls.{badShop, replicaOf, fresh, freshRefusal}
 use Rattle.slots.specs.Slots.{mostSlots}
+use Rattle.slots.proofs.SlotLaws.{in-words-member}
 use Rattle.store.specs.Requests.{mostWords}
 use Rattle.creek.specs.internal.Sound.{mostRequests}
 use Rattle.creek.proofs.SoundLaws.{fresh-sound}
@@ -70,8 +72,10 @@ module _ (panels : ℕ) (own : PanelNo) (good : GoodShop panels (own .0)) where
       responses = length-replicate {A = ℕ} mostRequests 0;
       held = length-replicate {A = ℕ} mostPanels 0;
       awaiting = length-replicate {A = ℕ} mostPanels 0;
+      settled = length-replicate {A = ℕ} mostPanels 0;
     };
     held = λ slot h. sym (ap one (member-empty _));
+    settled = record { marked = λ t h. sym (ap one (in-words-member emptySet t h ∙ member-empty _)) };
     order-slots = tt;
     board-slots = tt;
     log = record { replayed = sym replay-nothing; restores = λ k h. absurd (omega arith); replies = λ k h. absurd (omega arith) };

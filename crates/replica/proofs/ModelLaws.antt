@@ -1,17 +1,20 @@
--- How the map looks at a state: the lengths of the standing order and of the board; the last request on the board and the next one to
--- execute; what is to be rolled back and to be executed.
-use Prim.Native.Nat.{ℕ, suc, _-_, _≤_, _<_}
+-- How the map looks at a state: the lengths of the standing order and of the board; the clock order of the tentative requests; the last
+-- request on the board and the next one to execute; what is to be rolled back and to be executed.
+use Prim.Native.Nat.{ℕ, suc, _+_, _-_, _≤_, _<_}
 use native.Mathlib.Omega.{arith}
 use mathlib.Core.Path.{_≡_, refl, sym, ap, _∙_}
+use mathlib.Core.Bool.{true}
 use mathlib.Core.List.{List, [], _∷_, _++_, map, map-append, reverse, reverse-append}
 use lib.ListN.{length, take, drop, getD, length-map, length-drop, length-reverse, take-append-drop, List·getD-map}
-use lib.Seq.{take-suc, drop-cons, drop-append-le, drop-length, length-take-le, take-take, take-at, getD-take}
+use lib.Seq.{take-suc, drop-cons, drop-append-le, drop-length, length-take-le, take-take, take-at, getD-take, getD-drop}
 use Rattle.lists.proofs.AllLaws.{all-at, all-take}
 use Rattle.lists.proofs.MapLaws.{map-take, map-drop}
+use Rattle.lists.proofs.OrderedLaws.{ordered-at}
 use Rattle.lists.specs.Lists.{count}
 use Rattle.lists.specs.Places.{All}
 use Rattle.numbers.specs.declared.Number.{Number}
 use Rattle.request.specs.declared.Request.{Request}
+use Rattle.request.specs.Order.{before}
 use Rattle.numbers.specs.internal.Slots.{slotOf}
 use Rattle.numbers.proofs.NumberLaws.{slot-of-number}
 use Rattle.slots.specs.Slots.{IsSlot}
@@ -78,6 +81,25 @@ module _ (q : State) (inv : Inv q) where
 
   pub length-board : length (boardOf q) ≡ q .stacked
   length-board = length-map (boardSlots q) (requestOf q) ∙ length-board-slots
+
+  -- the request at a tentative place
+  tentative-at : (k : ℕ) → q .committed ≤ k → k < q .ordered
+      → getD (drop (q .committed) (orderOf q)) (k - q .committed) (requestOf q 0) ≡ requestOf q (getD (q .order) k 0)
+  tentative-at k low high =
+      let place : q .committed + (k - q .committed) ≡ k = omega arith in
+      getD-drop (q .committed) (orderOf q) (k - q .committed) (requestOf q 0)
+      ∙ ap (λ (n : ℕ). getD (orderOf q) n (requestOf q 0)) place
+      ∙ List·getD-map (requestOf q) (orderSlots q) k 0
+      ∙ ap (requestOf q) (getD-take (q .ordered) (q .order) k 0 high)
+
+  -- the tentative requests stand in clock order
+  pub tentative-ordered : (i j : ℕ) → q .committed ≤ i → i < j → j < q .ordered
+      → before (requestOf q (getD (q .order) i 0)) (requestOf q (getD (q .order) j 0)) ≡ true
+  unfolding planOf
+  tentative-ordered i j low up high =
+      rw (tentative-at i low (omega arith), tentative-at j (omega arith) high) at
+      (ordered-at before (drop (q .committed) (orderOf q)) (plan-sound .clock-order) (i - q .committed) (j - q .committed) (requestOf q 0)
+      (omega arith) (omega (arith, length-order, length-drop (q .committed) (orderOf q))))
 
   -- the executed list is a start of the standing order
   pub executed-follows : take (q .executed) (q .stack) ≡ take (q .executed) (q .order)

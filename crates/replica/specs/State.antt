@@ -34,10 +34,12 @@ pub record State : Type 0 where
   pub registers : List ℕ
   pub saved : List ℕ
   pub responses : List ℕ
+  pub settled : Context
 
 -- the memory of a panel with that core, those counters and those arrays
-abbrev pub packed : Core → Counters → (held known awaiting clocks operations contexts order stack registers saved responses : List ℕ) → State
-packed core counters held known awaiting clocks operations contexts order stack registers saved responses = record {
+abbrev pub packed : Core → Counters
+    → (held known awaiting clocks operations contexts order stack registers saved responses settled : List ℕ) → State
+packed core counters held known awaiting clocks operations contexts order stack registers saved responses settled = record {
   panels = core .panels;
   own = core .own;
   events = core .events;
@@ -59,6 +61,7 @@ packed core counters held known awaiting clocks operations contexts order stack 
   registers = registers;
   saved = saved;
   responses = responses;
+  settled = setOf settled;
 }
 
 -- ---- what the calls lead to

@@ -1,9 +1,10 @@
 // A panel's memory, and the calls that make and show it, over lent parts of it.
 //
 // A request is kept at its number's slot in `clocks`, `operations` and `contexts`. The standing order is the first `ordered` of `order`, of
-// which the first `committed` are committed. The requests on the board are the first `stacked` of `stack`: the first `executed` of them
-// are the executed list, the rest, last first, the rollback list. By place on the board `saved` has what to roll back from and `responses`
-// the response. So adjusting only lowers `executed`, an undo takes the last off the stack, and an execution puts one on.
+// which the first `committed` are committed; `held` has the numbers of the order, `settled` those of the committed ones. The requests on
+// the board are the first `stacked` of `stack`: the first `executed` of them are the executed list, the rest, last first, the rollback
+// list. By place on the board `saved` has what to roll back from and `responses` the response. So adjusting only lowers `executed`, an undo
+// takes the last off the stack, and an execution puts one on.
 //
 // A call is given the core by value and lent the arrays that it uses, no others. Its contract holds of every panel with these parts that
 // came from fresh and the calls. The steps are not counted here: a call says how many it did, and whoever has the counters counts them.
@@ -110,12 +111,14 @@ pub fn fresh(
     registers: &mut [u32; 64],
     saved: &mut [u64; 512],
     responses: &mut [u32; 512],
+    settled: &mut [u64; 8],
     panels: u8,
     own: PanelNo,
 ) -> Opening
     ensures { λ r. ⌜ FreshKept panels (own .0) (now (held .exit)) (now (known .exit)) (now (awaiting .exit)) (now (clocks .exit))
         (now (operations .exit)) (now (contexts .exit)) (now (order .exit)) (now (stack .exit)) (now (registers .exit)) (now (saved .exit))
-        (now (responses .exit)) (openedBy (now (committed .exit)) (now (ordered .exit)) (now (executed .exit)) (now (stacked .exit))
+        (now (responses .exit)) (now (settled .exit))
+        (openedBy (now (committed .exit)) (now (ordered .exit)) (now (executed .exit)) (now (stacked .exit))
         (now (commits .exit)) (now (clock .exit)) (now (shop .exit)) (now (events .exit)) r) ⌝ }
 {
     let opened = fresh_with_core(
@@ -130,6 +133,7 @@ pub fn fresh(
         registers,
         saved,
         responses,
+        settled,
         panels,
         own,
     );
@@ -164,12 +168,13 @@ pub fn fresh_with_core(
     registers: &mut [u32; 64],
     saved: &mut [u64; 512],
     responses: &mut [u32; 512],
+    settled: &mut [u64; 8],
     panels: u8,
     own: PanelNo,
 ) -> FreshResult
     ensures { λ r. ⌜ FreshKept panels (own .0) (now (held .exit)) (now (known .exit)) (now (awaiting .exit)) (now (clocks .exit))
         (now (operations .exit)) (now (contexts .exit)) (now (order .exit)) (now (stack .exit)) (now (registers .exit)) (now (saved .exit))
-        (now (responses .exit)) r ⌝ }
+        (now (responses .exit)) (now (settled .exit)) r ⌝ }
 {
     *held = [0u64; 8];
     *known = [0u64; 8];
@@ -182,6 +187,7 @@ pub fn fresh_with_core(
     *registers = [0u32; 64];
     *saved = [0u64; 512];
     *responses = [0u32; 512];
+    *settled = [0u64; 8];
     let counters = Counters {
         undos: 0,
         executions: 0,

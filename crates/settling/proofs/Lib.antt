@@ -4,3 +4,4 @@ pub mod SettlingRefusalLaws
 pub mod SettlingPlanLaws
 pub mod SettlingExecutionLaws
 pub mod SettlingLaws
+pub mod SettlingMovesLaws

@@ -12,13 +12,15 @@ use borrow.Author.Tests.{eq-eqb, leb-true}
 use Rattle.sets.specs.declared.Context.{Context}
 use Rattle.numbers.specs.declared.Number.{Number}
 use Rattle.request.specs.declared.Request.{Request}
-use Rattle.numbers.specs.Numbers.{noNumber}
+use Rattle.numbers.specs.Numbers.{mostPanels, noNumber}
+use Rattle.numbers.specs.internal.Slots.{slotOf}
 use Rattle.sets.specs.Sets.{setOf, member, join}
 use Rattle.lists.specs.Lists.{find, commonStart}
 use Rattle.lists.proofs.BoolLaws.{true-not-false, both-true}
 use Rattle.lists.proofs.ListLaws.{count-most}
 use Rattle.slots.specs.Slots.{PartsAsk}
-use Rattle.slots.specs.Settlement.{settled, SettlementAsks, Settled}
+use Rattle.slots.specs.Settlement.{settled, SettlementAsks, Settled, MovesAsk}
+use Rattle.slots.specs.Marks.{Marks, Marked}
 use Rattle.slots.proofs.SlotLaws.{common-from, common-until}
 use Rattle.slots.proofs.SettlementLaws.{unmoved-behind}
 use Rattle.creek.specs.declared.Answer.{Answer}
@@ -41,6 +43,7 @@ use Rattle.replica.proofs.ModelLaws.{executed-follows}
 use Rattle.settling.proofs.SettlingHeldLaws.{keptAt, numberAt, contextAt, sound-plan, HeldAt, held-slot, held-number}
 use Rattle.settling.proofs.SettlingRefusalLaws.{Settles, settlement-accepted, tentative-found}
 use Rattle.settling.proofs.SettlingPlanLaws.{Found, settlement-asks, Settlement, committed-most, order-count, order-slots-then}
+use Rattle.settling.proofs.SettlingMovesLaws.{moves-by-state, marks-by-state}
 use Rattle.settling.proofs.SettlingPlanLaws.{committed-then, tentative-then}
 use Rattle.settling.proofs.SettlingExecutionLaws.{executed-most, executed-ordered, execution-then, stays-executed, response-kept}
 
@@ -73,12 +76,13 @@ module _ {p : State} {s : ℕ} {order : List ℕ} {committed executed : ℕ} (h 
     {response : ℕ} (kept : response ≡ getD (p .responses) (committed - 1) 0)
     {due : Bool} (awaited : due ≡ (member (p .awaiting) (numberAt p s) && leb committed executed))
     {known : List ℕ} (joined : setOf known ≡ join (p .known) (numberAt p s))
-    {awaiting : List ℕ} (left : setOf awaiting ≡ awaitingAfter (p .awaiting) (numberAt p s) (settledAnswer due response .mark)) where
+    {awaiting : List ℕ} (left : setOf awaiting ≡ awaitingAfter (p .awaiting) (numberAt p s) (settledAnswer due response .mark))
+    {marked : List ℕ} (marks : Marks order committed marked) (long : length marked ≡ mostPanels) where
   abbrev inv : Inv p
   inv = h .invariant
 
   abbrev q : State
-  q = settledState p order committed executed known awaiting
+  q = settledState p order committed executed known awaiting marked
 
   plan-then : planOf q ≡ committing (planOf p) (keptAt p s)
   unfolding planOf committing
@@ -149,8 +153,10 @@ module _ {p : State} {s : ℕ} {order : List ℕ} {committed executed : ℕ} (h 
       responses = inv .lengths .responses;
       held = inv .lengths .held;
       awaiting = ap (λ (c : Context). length (c .words)) left ∙ awaiting-length (p .awaiting) (numberAt p s) (settledAnswer due response .mark) ∙ inv .lengths .awaiting;
+      settled = long;
     };
     held = λ t slot. order-count h (eqb t) ∙ inv .held t slot;
+    settled = marks;
     order-slots = order-slots-then h;
     board-slots = inv .board-slots;
     log = inv .log;
@@ -177,8 +183,11 @@ module _ {p : State} {n : Number} {s : ℕ} (inv : Inv p) (here : HeldAt p n s) 
   found : Found p s
   found = ap (λ (m : Number). find (hasNumber m) (planOf p .tentative)) (held-number inv here) ∙ tentative-found inv here t
 
-  pub commit-asks : SettlementAsks (p .order) (p .committed) (p .ordered) (contextAt p s .words) s
+  commit-asks : SettlementAsks (p .order) (p .committed) (p .ordered) (contextAt p s .words) s
   commit-asks = settlement-asks inv (held-slot inv here) found
+
+  pub moves-asks : MovesAsk (p .order) (p .clocks) (p .committed) (p .ordered) (contextAt p s .words) (p .settled .words) s
+  moves-asks = moves-by-state p inv (contextAt p s) (t .whole) s commit-asks
 
   taken : isAccepted (bookOf p) (commit (numberAt p s)) ≡ true
   taken = eq-eqb _ _ (ap (λ (m : Number). refusal (bookOf p) (commit m)) (held-number inv here) ∙ settlement-accepted inv here t)
@@ -226,7 +235,7 @@ module _ {p : State} {n : Number} {s : ℕ} (inv : Inv p) (here : HeldAt p n s) 
         ∙ sym (common-until (p .stack) order (p .executed) (p .ordered) last (omega arith) (inv .counts .done) stack-inside order-inside
         agrees-behind)
 
-  pub settled-kept : {order : List ℕ} {committed end same last start executed response : ℕ} {due : Bool} {known awaiting : List ℕ}
+  pub settled-kept : {order : List ℕ} {committed end same last start executed response : ℕ} {due : Bool} {known awaiting marked : List ℕ}
       {a : Answer}
       → Settled (p .order) (p .committed) (p .ordered) (contextAt p s .words) s order committed end
       → same ≡ min (p .executed) (p .committed)
@@ -238,9 +247,10 @@ module _ {p : State} {n : Number} {s : ℕ} (inv : Inv p) (here : HeldAt p n s) 
       → setOf known ≡ join (p .known) n
       → a ≡ settledAnswer due response
       → setOf awaiting ≡ awaitingAfter (p .awaiting) n (a .mark)
-      → Kept p (commit n) (record { answer = a; state = settledState p order committed executed known awaiting })
-  settled-kept {order} {committed} {end} {last = last} {executed = executed} {response} {due} {known} {awaiting} {a}
-      d lowest latest common stays kept awaited joined answered left =
+      → Marked (p .settled .words) (contextAt p s .words) (slotOf n) marked
+      → Kept p (commit n) (record { answer = a; state = settledState p order committed executed known awaiting marked })
+  settled-kept {order} {committed} {end} {last = last} {executed = executed} {response} {due} {known} {awaiting} {marked} {a}
+      d lowest latest common stays kept awaited joined answered left marks =
       let number : n ≡ numberAt p s = sym (held-number inv here) in
       let h : Settlement p s order committed executed =
       record {
@@ -251,10 +261,14 @@ module _ {p : State} {n : Number} {s : ℕ} (inv : Inv p) (here : HeldAt p n s) 
         settled = d;
         common = stays ∙ ap (agreed (p .executed) last) common ∙ common-is d lowest latest;
       } in
-      subst (λ (m : Number). Kept p (commit m) (record { answer = a; state = settledState p order committed executed known awaiting }))
+      subst (λ (m : Number). Kept p (commit m)
+      (record { answer = a; state = settledState p order committed executed known awaiting marked }))
       (held-number inv here)
       (settled-under h taken kept
       (awaited ∙ ap (λ (m : Number). member (p .awaiting) m && leb committed executed) number)
       (joined ∙ ap (join (p .known)) number)
       (left ∙ ap (λ (b : Answer). awaitingAfter (p .awaiting) n (b .mark)) answered
-      ∙ ap (λ (m : Number). awaitingAfter (p .awaiting) m (settledAnswer due response .mark)) number) answered)
+      ∙ ap (λ (m : Number). awaitingAfter (p .awaiting) m (settledAnswer due response .mark)) number)
+      (marks-by-state p inv (contextAt p s) (t .whole) s commit-asks order committed end d marked
+      (subst (λ (u : ℕ). Marked (p .settled .words) (contextAt p s .words) u marked) (sym (here .slot)) marks))
+      (marks .long) answered)

@@ -1,14 +1,17 @@
 -- How a settlement is refused and answered, by what the state keeps, and what the call asks and promises over the parts of a panel that it
 -- is lent.
 use Prim.Native.Nat.{ℕ}
+use mathlib.Core.Path.{_≡_}
 use mathlib.Core.Bool.{Bool, not, cond}
 use mathlib.Core.List.{List}
+use lib.ListN.{length}
 use lib.Dec.{eqb}
 use denote.Ref.{RefT}
 use denote.Triple.Both.{Both}
 use Rattle.sets.specs.declared.Context.{Context}
 use Rattle.numbers.specs.declared.Number.{Number}
-use Rattle.numbers.specs.Numbers.{noNumber, badNumber}
+use Rattle.numbers.specs.Numbers.{mostPanels, noNumber, badNumber}
+use Rattle.numbers.specs.internal.Slots.{GoodNumber}
 use Rattle.sets.specs.Sets.{setOf, member, subset, lowestLacking}
 use Rattle.request.specs.Refusal as refused
 use Rattle.creek.specs.declared.Answer.{Answer}
@@ -39,6 +42,11 @@ agreed executed last start = cond (eqb start last) executed start
 abbrev pub settledAnswer : Bool → ℕ → Answer
 settledAnswer due response = cond due (reply noNumber response stableMark) done
 
+-- what putting n and others into the set of the settled asks: the set is one of eight words, and n is good
+pub record MarkAsks (settledWords : List ℕ) (n : Number) : Type 0 where
+  pub long : length settledWords ≡ mostPanels
+  pub number : GoodNumber mostPanels n
+
 -- ---- over the parts of a panel
 
 -- what is lent to a settlement: the counts of the committed and the executed, the settlements, and the arrays
@@ -49,35 +57,44 @@ pub record Lent : Type 0 where
   pub held : List ℕ
   pub known : List ℕ
   pub awaiting : List ℕ
+  pub clocks : List ℕ
   pub operations : List ℕ
   pub contexts : List ℕ
   pub order : List ℕ
   pub stack : List ℕ
   pub responses : List ℕ
+  pub settled : List ℕ
 
 -- what references to them refer to: where they are passed, at a function's entry, and at its exit
-abbrev pub lentNow : (committed executed commits : RefT ℕ) (held known awaiting operations contexts order stack responses : RefT (List ℕ)) → Lent
-lentNow committed executed commits held known awaiting operations contexts order stack responses = record {
+abbrev pub lentNow : (committed executed commits : RefT ℕ)
+    (held known awaiting clocks operations contexts order stack responses settled : RefT (List ℕ)) → Lent
+lentNow committed executed commits held known awaiting clocks operations contexts order stack responses settled = record {
   committed = committed .now;
   executed = executed .now;
   commits = commits .now;
   held = held .now;
   known = known .now;
   awaiting = awaiting .now;
+  clocks = clocks .now;
   operations = operations .now;
   contexts = contexts .now;
   order = order .now;
   stack = stack .now;
   responses = responses .now;
+  settled = settled .now;
 }
 
-abbrev pub lentEntry : (committed executed commits : Both (RefT ℕ) (RefT ℕ)) (held known awaiting operations contexts order stack responses : Both (RefT (List ℕ)) (RefT (List ℕ))) → Lent
-lentEntry committed executed commits held known awaiting operations contexts order stack responses =
-    lentNow (committed .entry) (executed .entry) (commits .entry) (held .entry) (known .entry) (awaiting .entry) (operations .entry) (contexts .entry) (order .entry) (stack .entry) (responses .entry)
+abbrev pub lentEntry : (committed executed commits : Both (RefT ℕ) (RefT ℕ))
+    (held known awaiting clocks operations contexts order stack responses settled : Both (RefT (List ℕ)) (RefT (List ℕ))) → Lent
+lentEntry committed executed commits held known awaiting clocks operations contexts order stack responses settled =
+    lentNow (committed .entry) (executed .entry) (commits .entry) (held .entry) (known .entry) (awaiting .entry) (clocks .entry)
+    (operations .entry) (contexts .entry) (order .entry) (stack .entry) (responses .entry) (settled .entry)
 
-abbrev pub lentExit : (committed executed commits : Both (RefT ℕ) (RefT ℕ)) (held known awaiting operations contexts order stack responses : Both (RefT (List ℕ)) (RefT (List ℕ))) → Lent
-lentExit committed executed commits held known awaiting operations contexts order stack responses =
-    lentNow (committed .exit) (executed .exit) (commits .exit) (held .exit) (known .exit) (awaiting .exit) (operations .exit) (contexts .exit) (order .exit) (stack .exit) (responses .exit)
+abbrev pub lentExit : (committed executed commits : Both (RefT ℕ) (RefT ℕ))
+    (held known awaiting clocks operations contexts order stack responses settled : Both (RefT (List ℕ)) (RefT (List ℕ))) → Lent
+lentExit committed executed commits held known awaiting clocks operations contexts order stack responses settled =
+    lentNow (committed .exit) (executed .exit) (commits .exit) (held .exit) (known .exit) (awaiting .exit) (clocks .exit)
+    (operations .exit) (contexts .exit) (order .exit) (stack .exit) (responses .exit) (settled .exit)
 
 -- a panel of a shop of so many panels, with so many in the order, and those parts
 abbrev pub commitParts : ℕ → ℕ → Lent → State → State
@@ -95,7 +112,7 @@ commitParts panels ordered l p = record {
   held = setOf (l .held);
   known = setOf (l .known);
   awaiting = setOf (l .awaiting);
-  clocks = p .clocks;
+  clocks = l .clocks;
   operations = l .operations;
   contexts = l .contexts;
   order = l .order;
@@ -103,6 +120,7 @@ commitParts panels ordered l p = record {
   registers = p .registers;
   saved = p .saved;
   responses = l .responses;
+  settled = setOf (l .settled);
 }
 
 -- they are the parts of a panel that came from fresh and the calls

@@ -9,9 +9,11 @@ use numbers::Number;
 use request::refusal;
 use sets::Context;
 ghost use mathlib.Core.Path.{_≡_};
+ghost use Rattle.numbers.specs.internal.Slots.{slotOf};
 ghost use Rattle.sets.specs.Sets.{setOf};
+ghost use Rattle.slots.specs.Marks.{Marked};
 ghost use Rattle.creek.specs.Replies.{replyAnswer};
-ghost use Rattle.settling.specs.Settling.{numberRefusal, heldAnswer, agreed, settledAnswer};
+ghost use Rattle.settling.specs.Settling.{numberRefusal, heldAnswer, agreed, settledAnswer, MarkAsks};
 ghost use Rattle.settling.specs.Settling.{lentNow, lentEntry, lentExit, CommitAsks, CommitKept};
 
 // Settle the request of number n.
@@ -24,18 +26,21 @@ pub fn commit<'a>(
     held: &'a [u64; 8],
     known: &mut [u64; 8],
     awaiting: &mut [u64; 8],
+    clocks: &'a [u32; 512],
     operations: &'a [u64; 512],
     contexts: &'a [u64; 4096],
     order: &mut [u16; 512],
     stack: &'a [u16; 512],
     responses: &'a [u32; 512],
+    settled: &mut [u64; 8],
     n: Number,
 ) -> Reply
     requires { ⌜ CommitAsks panels ordered
-        (lentNow committed executed commits held known awaiting operations contexts order stack responses) ⌝ }
+        (lentNow committed executed commits held known awaiting clocks operations contexts order stack responses settled) ⌝ }
     ensures { λ r. ⌜ CommitKept panels ordered
-        (lentEntry committed executed commits held known awaiting operations contexts order stack responses) n
-        (lentExit committed executed commits held known awaiting operations contexts order stack responses) (replyAnswer r) ⌝ }
+        (lentEntry committed executed commits held known awaiting clocks operations contexts order stack responses settled) n
+        (lentExit committed executed commits held known awaiting clocks operations contexts order stack responses settled)
+        (replyAnswer r) ⌝ }
 {
     let refusal = number_refusal(panels, held, n);
     if refusal != refusal::ACCEPTED {
@@ -52,11 +57,12 @@ pub fn commit<'a>(
     let from = *committed;
     let before = *executed;
     let words = context.words;
-    let settled = slots::settle_order(order, from, ordered, &words, slot);
-    let count = settled.committed;
+    let moved = slots::settle_moving(order, clocks, from, ordered, &words, settled, slot);
+    let count = moved.committed;
+    mark(settled, &words, n);
     // What is executed agrees with the order up to where the settlement changes it, and behind the last slot that it moves.
     let same = replica::lower(before, from);
-    let last = replica::lower(before, settled.end);
+    let last = replica::lower(before, moved.end);
     let start = slots::common_start(stack, last, order, ordered, same);
     let stays = agreed(before, last, start);
     // The request is the last committed: it stays executed where the mark lies behind it, and its response was kept at its place.
@@ -83,18 +89,20 @@ pub fn commit_answer<'a>(
     held: &'a [u64; 8],
     known: &mut [u64; 8],
     awaiting: &mut [u64; 8],
+    clocks: &'a [u32; 512],
     operations: &'a [u64; 512],
     contexts: &'a [u64; 4096],
     order: &mut [u16; 512],
     stack: &'a [u16; 512],
     responses: &'a [u32; 512],
+    settled: &mut [u64; 8],
     n: Number,
 ) -> Answer
     requires { ⌜ CommitAsks panels ordered
-        (lentNow committed executed commits held known awaiting operations contexts order stack responses) ⌝ }
+        (lentNow committed executed commits held known awaiting clocks operations contexts order stack responses settled) ⌝ }
     ensures { λ a. ⌜ CommitKept panels ordered
-        (lentEntry committed executed commits held known awaiting operations contexts order stack responses) n
-        (lentExit committed executed commits held known awaiting operations contexts order stack responses) a ⌝ }
+        (lentEntry committed executed commits held known awaiting clocks operations contexts order stack responses settled) n
+        (lentExit committed executed commits held known awaiting clocks operations contexts order stack responses settled) a ⌝ }
 {
     let reply = commit(
         panels,
@@ -105,11 +113,13 @@ pub fn commit_answer<'a>(
         held,
         known,
         awaiting,
+        clocks,
         operations,
         contexts,
         order,
         stack,
         responses,
+        settled,
         n,
     );
     replica::answer_of(reply)
@@ -150,6 +160,15 @@ fn held_reply(strong: bool, context: Context, known: Context, n: Number) -> Repl
         };
     }
     replica::refusing(refusal::ACCEPTED)
+}
+
+// Puts the number n, and with it those of its context, into the set of the numbers settled.
+fn mark(settled: &mut [u64; 8], words: &[u64; 8], n: Number)
+    requires { ⌜ MarkAsks (now settled) n ⌝ }
+    ensures { λ _. ⌜ Marked (now (settled .entry)) (now (words .entry)) (slotOf n) (now (settled .exit)) ⌝ }
+{
+    slots::join_all(settled, words);
+    store::join(settled, n);
 }
 
 // How many stay executed where the comparison up to `last`, behind which all agree, ended at `start`: all where it came to `last`, else

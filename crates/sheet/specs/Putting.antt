@@ -63,7 +63,7 @@ pub record AllPut (r : Replica) (s out : List ℕ) (at : ℕ) (out′ : List ℕ
 abbrev pub closingParts : State → Core → Counters → List ℕ → State
 closingParts p core counters registers =
     packed core counters (p .held .words) (p .known .words) (p .awaiting .words) (p .clocks) (p .operations) (p .contexts) (p .order)
-    (p .stack) registers (p .saved) (p .responses)
+    (p .stack) registers (p .saved) (p .responses) (p .settled .words)
 
 -- they are those of a panel that came from fresh and the calls
 pub record ClosingAsks (core : Core) (counters : Counters) (registers : List ℕ) : Type 0 where

@@ -83,16 +83,17 @@ fn take_in(
     registers: &mut [u32; 64],
     saved: &mut [u64; 512],
     responses: &mut [u32; 512],
+    settled: &mut [u64; 8],
     m: Message,
 ) -> Heard
     requires { ⌜ Inv (packed core counters (now held) (now known) (now awaiting) (now clocks) (now operations) (now contexts)
-        (now order) (now stack) (now registers) (now saved) (now responses)) ⌝ }
+        (now order) (now stack) (now registers) (now saved) (now responses) (now settled)) ⌝ }
     ensures { λ h. ⌜ TakenIn (packed core counters (now (held .entry)) (now (known .entry)) (now (awaiting .entry))
         (now (clocks .entry)) (now (operations .entry)) (now (contexts .entry)) (now (order .entry)) (now (stack .entry))
-        (now (registers .entry)) (now (saved .entry)) (now (responses .entry))) (said m)
+        (now (registers .entry)) (now (saved .entry)) (now (responses .entry)) (now (settled .entry))) (said m)
         (packed (h .core) (h .counters) (now (held .exit)) (now (known .exit)) (now (awaiting .exit)) (now (clocks .exit))
         (now (operations .exit)) (now (contexts .exit)) (now (order .exit)) (now (stack .exit)) (now (registers .exit))
-        (now (saved .exit)) (now (responses .exit))) h ⌝ }
+        (now (saved .exit)) (now (responses .exit)) (now (settled .exit))) h ⌝ }
 {
     let c = intake::take_with_core(
         core,
@@ -105,6 +106,7 @@ fn take_in(
         order,
         stack,
         responses,
+        settled,
         m,
     );
     let answer = c.answer;
@@ -145,16 +147,17 @@ fn hear(
     registers: &mut [u32; 64],
     saved: &mut [u64; 512],
     responses: &mut [u32; 512],
+    settled: &mut [u64; 8],
     r: Reading,
 ) -> Heard
     requires { ⌜ Inv (packed core counters (now held) (now known) (now awaiting) (now clocks) (now operations) (now contexts)
-        (now order) (now stack) (now registers) (now saved) (now responses)) ⌝ }
+        (now order) (now stack) (now registers) (now saved) (now responses) (now settled)) ⌝ }
     ensures { λ h. ⌜ HeardAs (packed core counters (now (held .entry)) (now (known .entry)) (now (awaiting .entry))
         (now (clocks .entry)) (now (operations .entry)) (now (contexts .entry)) (now (order .entry)) (now (stack .entry))
-        (now (registers .entry)) (now (saved .entry)) (now (responses .entry))) r
+        (now (registers .entry)) (now (saved .entry)) (now (responses .entry)) (now (settled .entry))) r
         (packed (h .core) (h .counters) (now (held .exit)) (now (known .exit)) (now (awaiting .exit)) (now (clocks .exit))
         (now (operations .exit)) (now (contexts .exit)) (now (order .exit)) (now (stack .exit)) (now (registers .exit))
-        (now (saved .exit)) (now (responses .exit))) h ⌝ }
+        (now (saved .exit)) (now (responses .exit)) (now (settled .exit))) h ⌝ }
 {
     let answer = r.answer;
     match answer {
@@ -172,6 +175,7 @@ fn hear(
             registers,
             saved,
             responses,
+            settled,
             r.message,
         ),
         ReadAnswer::End => Heard {
@@ -251,19 +255,21 @@ fn put_messages(
     registers: &mut [u32; 64],
     saved: &mut [u64; 512],
     responses: &mut [u32; 512],
+    settled: &mut [u64; 8],
 ) -> Ended
     requires { ⌜ Inv (packed core counters (now held) (now known) (now awaiting) (now clocks) (now operations) (now contexts)
-        (now order) (now stack) (now registers) (now saved) (now responses)) ⌝ }
+        (now order) (now stack) (now registers) (now saved) (now responses) (now settled)) ⌝ }
     requires { ⌜ shopBytes ≤ length (now input) ⌝ }
     requires { ⌜ length (now input) ≤ mostInput ⌝ }
     requires { ⌜ from + mostMessages * mostMessageBytes ≤ length (now out) ⌝ }
     ensures { λ e. ⌜ AllPut (model (packed core counters (now (held .entry)) (now (known .entry)) (now (awaiting .entry))
         (now (clocks .entry)) (now (operations .entry)) (now (contexts .entry)) (now (order .entry)) (now (stack .entry))
-        (now (registers .entry)) (now (saved .entry)) (now (responses .entry)))) (now (input .entry)) (now (out .entry)) from
+        (now (registers .entry)) (now (saved .entry)) (now (responses .entry)) (now (settled .entry)))) (now (input .entry))
+        (now (out .entry)) from
         (now (out .exit))
         (packed (e .core) (e .counters) (now (held .exit)) (now (known .exit)) (now (awaiting .exit)) (now (clocks .exit))
         (now (operations .exit)) (now (contexts .exit)) (now (order .exit)) (now (stack .exit)) (now (registers .exit))
-        (now (saved .exit)) (now (responses .exit))) e ⌝ }
+        (now (saved .exit)) (now (responses .exit)) (now (settled .exit))) e ⌝ }
 {
     let mut after = core;
     let mut counted = counters;
@@ -286,6 +292,7 @@ fn put_messages(
             registers,
             saved,
             responses,
+            settled,
             r,
         );
         after = h.core;
@@ -346,9 +353,10 @@ fn put_opened(
     registers: &mut [u32; 64],
     saved: &mut [u64; 512],
     responses: &mut [u32; 512],
+    settled: &mut [u64; 8],
 ) -> usize
     requires { ⌜ Opens (now input) (packed core counters (now held) (now known) (now awaiting) (now clocks) (now operations)
-        (now contexts) (now order) (now stack) (now registers) (now saved) (now responses)) ⌝ }
+        (now contexts) (now order) (now stack) (now registers) (now saved) (now responses) (now settled)) ⌝ }
     requires { ⌜ length (now input) ≤ mostInput ⌝ }
     requires { ⌜ mostPrinted ≤ length (now out) ⌝ }
     ensures { λ r. ⌜ PrintoutPut (now (input .entry)) (now (out .entry)) (now (out .exit)) r ⌝ }
@@ -373,6 +381,7 @@ fn put_opened(
         registers,
         saved,
         responses,
+        settled,
     );
     put_closing(out, e.behind, e.core, e.counters, registers)
 }
@@ -392,6 +401,7 @@ fn put_shop(
     registers: &mut [u32; 64],
     saved: &mut [u64; 512],
     responses: &mut [u32; 512],
+    settled: &mut [u64; 8],
 ) -> usize
     requires { ⌜ shopBytes ≤ length (now input) ⌝ }
     requires { ⌜ length (now input) ≤ mostInput ⌝ }
@@ -412,6 +422,7 @@ fn put_shop(
         registers,
         saved,
         responses,
+        settled,
         panels,
         PanelNo(own),
     );
@@ -434,6 +445,7 @@ fn put_shop(
         registers,
         saved,
         responses,
+        settled,
     )
 }
 
@@ -457,6 +469,7 @@ fn put_printout(out: &mut [u8], input: &[u8]) -> usize
     let mut registers = [0u32; 64];
     let mut saved = [0u64; 512];
     let mut responses = [0u32; 512];
+    let mut settled = [0u64; 8];
     put_shop(
         out,
         input,
@@ -471,6 +484,7 @@ fn put_printout(out: &mut [u8], input: &[u8]) -> usize
         &mut registers,
         &mut saved,
         &mut responses,
+        &mut settled,
     )
 }
 

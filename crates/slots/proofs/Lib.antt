@@ -3,3 +3,10 @@ pub mod SlotLaws
 pub mod SeparationLaws
 pub mod SettlementLaws
 pub mod MovingLaws
+pub mod FrontLaws
+pub mod AloneLaws
+pub mod LackedLaws
+pub mod CountedLaws
+pub mod MovesLaws
+pub mod MarkLaws
+pub mod UnionLaws

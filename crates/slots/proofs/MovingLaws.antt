@@ -1,46 +1,19 @@
--- Laws of the places that a settlement moves: the walk down to the last of them, and that a settlement of the places up to there is the
--- settlement of all.
-use Prim.Native.Nat.{ℕ, suc, _+_, _-_, _≤_, _<_}
+-- Laws of the places that a settlement moves: a settlement of the places up to the last of them is the settlement of all.
+use Prim.Native.Nat.{ℕ, _+_, _-_, _≤_, _<_}
 use native.Mathlib.Omega.{arith}
 use mathlib.Core.Path.{_≡_, refl, sym, ap, _∙_}
 use mathlib.Core.Bool.{Bool, true, false, not, _||_}
 use mathlib.Core.List.{List, _∷_, _++_, append-assoc, append-nil}
-use lib.ListN.{length, take, drop, getD}
-use lib.Seq.{slice, slice-cons, slice-empty, drop-drop, take-at, length-slice}
+use lib.ListN.{length, take, drop}
+use lib.Seq.{slice, drop-drop, take-at, length-slice}
 use lib.Dec.{eqb, ltb}
 use borrow.Author.Tests.{ltb-true, ltb-false}
 use Rattle.lists.specs.Lists.{count, keep}
 use Rattle.lists.proofs.AllLaws.{all-take}
-use Rattle.lists.proofs.ListLaws.{one-false, count-append, count-drop, count-weaker, keep-append, keep-nothing, keep-everything}
+use Rattle.lists.proofs.ListLaws.{count-append, count-drop, count-weaker, keep-append, keep-nothing, keep-everything}
 use Rattle.lists.proofs.PlaceLaws.{drop-further, take-slice, slice-split, slice-further}
 use Rattle.ordering.specs.Slots.{IsSlot, inWords}
-use Rattle.slots.specs.Settlement.{stays, settled, SettlementAsks, Settled}
-
--- ---- the walk down
-
--- those that a settlement of s moves
-abbrev moves : List ℕ → ℕ → ℕ → Bool
-moves words s t = not (stays words s t)
-
--- a slot stays by the test of a turn
-pub stays-tested : (words : List ℕ) (s t : ℕ) (named met : Bool) → named ≡ inWords words t → named || eqb s t ≡ met
-    → stays words s t ≡ not met
-unfolding stays
-stays-tested words s t named met e test = ap not (ap (λ (b : Bool). b || eqb s t) (sym e) ∙ test)
-
--- behind the last place none moves
-pub moving-starts : (xs : List ℕ) (to : ℕ) (words : List ℕ) (s : ℕ) → count (moves words s) (slice to to xs) ≡ 0
-moving-starts xs to words s = ap (count (moves words s)) (slice-empty to xs)
-
--- where the slot before place e stays and none from e on moves, none from that slot on moves
-pub moving-on : (xs : List ℕ) (to : ℕ) (words : List ℕ) (s e : ℕ) → 1 ≤ e → e ≤ to → to ≤ length xs
-    → stays words s (getD xs (e - 1) 0) ≡ true → count (moves words s) (slice e to xs) ≡ 0
-    → count (moves words s) (slice (e - 1) to xs) ≡ 0
-moving-on xs to words s e some high inside here behind =
-    let next : suc (e - 1) ≡ e = omega arith in
-    let cut : slice (e - 1) to xs ≡ getD xs (e - 1) 0 ∷ slice e to xs =
-    slice-cons (e - 1) to xs 0 (omega arith) inside ∙ ap (λ (k : ℕ). getD xs (e - 1) 0 ∷ slice k to xs) next in
-    ap (count (moves words s)) cut ∙ omega (arith, behind, one-false (ap not here))
+use Rattle.slots.specs.Settlement.{stays, moves, settled, SettlementAsks, Settled}
 
 -- ---- a settlement of the places up to e, from which on none moves
 
@@ -134,8 +107,8 @@ module _ (xs : List ℕ) (from to : ℕ) (words : List ℕ) (s : ℕ) (h : Settl
       ∙ sym (append-assoc (keep (inWords words) (slice from e xs)) (s ∷ keep (stays words s) (slice from e xs)) (slice e to xs))
 
   -- so their settlement is the settlement of all
-  pub settled-further : (ys : List ℕ) (r : ℕ) → Settled xs from e words s ys r e → Settled xs from to words s ys r e
-  settled-further ys r d = record {
+  pub settled-further : (ys : List ℕ) (r k : ℕ) → Settled xs from e words s ys r k → Settled xs from to words s ys r k
+  settled-further ys r k d = record {
     committed = d .committed ∙ ap (λ (l : List ℕ). from + length l + 1) (sym named-before);
     first =
         take-slice e to high ys
@@ -147,6 +120,6 @@ module _ (xs : List ℕ) (from to : ℕ) (words : List ℕ) (s : ℕ) (h : Settl
     rest = drop-further e to ys xs high (d .rest);
     long = d .long;
     moved = d .moved;
-    within = high;
+    within = omega (arith, d .within);
     unmoved = d .unmoved;
   }

@@ -1,17 +1,21 @@
 -- The order after a settlement, and the steps by which it is made.
 use Prim.Native.Nat.{ℕ, _+_, _-_, _≤_}
 use mathlib.Core.Path.{_≡_}
-use mathlib.Core.Bool.{Bool, false, not, _||_}
+use mathlib.Core.Bool.{Bool, true, false, not, _||_}
 use mathlib.Core.List.{List, _∷_, _++_}
 use lib.ListN.{length, take, drop, getD}
 use lib.Seq.{slice}
 use lib.Dec.{eqb}
 use Rattle.lists.specs.Lists.{count, keep}
-use Rattle.ordering.specs.Slots.{mostSlots, Part, inWords}
+use Rattle.ordering.specs.Slots.{mostSlots, IsSlot, Part, InOrder, inWords}
 
 -- slot t stays tentative when the request of slot s is settled: it is neither named in its context nor s itself
 unfoldable pub stays : List ℕ → ℕ → ℕ → Bool
 stays words s t = not (inWords words t || eqb s t)
+
+-- it moves to the front: it does not stay
+abbrev pub moves : List ℕ → ℕ → ℕ → Bool
+moves words s t = not (stays words s t)
 
 -- ---- separation of the places from..to: those named to the front of these places, those that stay into another array
 
@@ -56,16 +60,35 @@ pub record Settled (xs : List ℕ) (from to : ℕ) (words : List ℕ) (s : ℕ) 
   pub within : e ≤ to
   pub unmoved : drop e ys ≡ drop e xs
 
--- ---- the last place that a settlement moves
+-- ---- the place behind the last that moves, by how many do
 
--- what a walk down from `to` to that place asks: from some place on up to `to`, the slots are as a settlement of s asks
-pub record MovingAsks (order : List ℕ) (to : ℕ) (words : List ℕ) (s : ℕ) : Type 0 where
-  pub from : ℕ
+-- a settlement of s moves `moving` of the slots from..to
+pub record Counted (order : List ℕ) (from to moving : ℕ) (words : List ℕ) (s : ℕ) : Type 0 where
   pub asks : SettlementAsks order from to words s
+  pub all : moving ≡ count (moves words s) (slice from to order)
 
--- r is the place behind it: the slot before r does not stay, and all those from r on do
-pub record MovingEnd (order : List ℕ) (to : ℕ) (words : List ℕ) (s r : ℕ) : Type 0 where
-  pub some : 1 ≤ r
+-- it does, for some `to`
+pub record SomeCounted (order : List ℕ) (from moving : ℕ) (words : List ℕ) (s : ℕ) : Type 0 where
+  pub to : ℕ
+  pub counted : Counted order from to moving words s
+
+-- r is not behind `to`, and none of the slots r..to moves
+pub record NoneBehind (order : List ℕ) (to : ℕ) (words : List ℕ) (s r : ℕ) : Type 0 where
   pub inside : r ≤ to
-  pub last : stays words s (getD order (r - 1) 0) ≡ false
-  pub behind : count (λ t. not (stays words s t)) (slice r to order) ≡ 0
+  pub behind : count (moves words s) (slice r to order) ≡ 0
+
+-- r is the place behind the last that moves, for every `to` up to which that many move
+pub record CountedEnd (order : List ℕ) (from moving : ℕ) (words : List ℕ) (s r : ℕ) : Type 0 where
+  pub low : from ≤ r
+  pub end : (to : ℕ) → Counted order from to moving words s → NoneBehind order to words s r
+
+-- ---- a settlement where it is known which numbers are settled
+
+-- what it asks where `settledWords` have these: the slots from..to stand in clock order, none of them is settled, and each slot that is
+-- named and not settled is one of them
+pub record MovesAsk (order clocks : List ℕ) (from to : ℕ) (words settledWords : List ℕ) (s : ℕ) : Type 0 where
+  pub asks : SettlementAsks order from to words s
+  pub clocks-long : length clocks ≡ mostSlots
+  pub rising : InOrder clocks order from to
+  pub clear : count (inWords settledWords) (slice from to order) ≡ 0
+  pub there : (t : ℕ) → IsSlot t → inWords words t ≡ true → inWords settledWords t ≡ false → count (eqb t) (slice from to order) ≡ 1

@@ -182,8 +182,10 @@ module _ (p : State) (inv : Inv p) where
               awaiting =
                   ap (λ (a : Context). length (a .words)) waits
                   ∙ awaiting-length (p .awaiting) (numberOf (nextSlot p)) (nextMark p) ∙ long .awaiting;
+              settled = long .settled;
             };
             held = inv .held;
+            settled = inv .settled;
             order-slots = inv .order-slots;
             board-slots = rw slots-more (all-append IsSlot (boardSlots p) (nextSlot p ∷ []) (inv .board-slots) (next-slot p inv more, tt));
             log =

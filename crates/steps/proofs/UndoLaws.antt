@@ -86,8 +86,10 @@ module _ (p : State) (inv : Inv p) where
           responses = inv .lengths .responses;
           held = inv .lengths .held;
           awaiting = inv .lengths .awaiting;
+          settled = inv .lengths .settled;
         };
         held = inv .held;
+        settled = inv .settled;
         order-slots = inv .order-slots;
         board-slots =
             rw (← take-take (p .stacked - 1) (p .stacked) (p .stack) (omega arith))

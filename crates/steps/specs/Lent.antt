@@ -56,6 +56,7 @@ abbrev pub undoing : UndoLent → State → State
 undoing l p =
     packed (withBoard (coreIn p) (l .executed) (l .stacked)) (p .counters) (p .held .words) (p .known .words) (p .awaiting .words)
     (p .clocks) (l .operations) (p .contexts) (p .order) (l .stack) (l .registers) (l .saved) (p .responses)
+    (p .settled .words)
 
 -- ---- execute
 
@@ -131,6 +132,7 @@ abbrev pub executing : ExecuteLent → State → State
 executing l p =
     packed (withCounts (coreIn p) (l .committed) (l .ordered) (l .executed) (l .stacked)) (p .counters) (p .held .words) (p .known .words)
     (l .awaiting) (p .clocks) (l .operations) (p .contexts) (l .order) (l .stack) (l .registers) (l .saved) (l .responses)
+    (p .settled .words)
 
 -- ---- counting
 

@@ -16,7 +16,7 @@ use Rattle.steps.specs.declared.with_core.StepResult.{StepResult}
 abbrev pub undoParts : State → Counters → Core → (operations stack registers saved : List ℕ) → State
 undoParts p counters core operations stack registers saved =
     packed core counters (p .held .words) (p .known .words) (p .awaiting .words) (p .clocks) operations (p .contexts) (p .order) stack
-    registers saved (p .responses)
+    registers saved (p .responses) (p .settled .words)
 
 -- they are the parts of a panel that came from fresh and the calls
 pub record CoreUndoAsks (core : Core) (operations stack registers saved : List ℕ) : Type 0 where
@@ -37,7 +37,7 @@ pub record CoreUndoKept (core : Core) (operations stack registers saved register
 abbrev pub executeParts : State → Counters → Core → (awaiting operations order stack registers saved responses : List ℕ) → State
 executeParts p counters core awaiting operations order stack registers saved responses =
     packed core counters (p .held .words) (p .known .words) awaiting (p .clocks) operations (p .contexts) order stack registers saved
-    responses
+    responses (p .settled .words)
 
 pub record CoreExecuteAsks (core : Core) (awaiting operations order stack registers saved responses : List ℕ) : Type 0 where
   pub panel : State

@@ -8,15 +8,17 @@ use Rattle.driver.proofs.run.Tie as tie
 
 -- ---- earlier places of the function, from later ones
 
-abbrev else-1-from-after-run-all-arg12 : tie.After-run-all-arg12 → tie.Else1
-else-1-from-after-run-all-arg12 c = c .before .before .before .before .before .before .before .before .before .before .before .before
+abbrev else-1-from-after-run-all-arg13 : tie.After-run-all-arg13 → tie.Else1
+else-1-from-after-run-all-arg13 c =
+    c .before .before .before .before .before .before .before .before .before .before .before .before .before
 
 abbrev else-1-from-after-run-all : tie.After-run-all → tie.Else1
-else-1-from-after-run-all c = c .before .before .before .before .before .before .before .before .before .before .before .before .before
+else-1-from-after-run-all c =
+    c .before .before .before .before .before .before .before .before .before .before .before .before .before .before
 
 -- what the bytes ask for
 abbrev own : tie.After-fresh-with-core → tie.After-byte-at2
-own c = c .before .before .before .before .before .before .before .before .before .before .before .before
+own c = c .before .before .before .before .before .before .before .before .before .before .before .before .before
 
 byte-at-requires : tie.Need-byte-at-requires
 byte-at-requires c κs = search needs
@@ -40,7 +42,7 @@ returns c =
 
 run-all-requires : tie.Need-run-all-requires
 run-all-requires c κs =
-    let roomy = else-1-from-after-run-all-arg12 c in
+    let roomy = else-1-from-after-run-all-arg13 c in
     let counted = roomy .before .before .before in (
       counted .before .fresh-with-core .ensures .opened .invariant,
       (counted .call-count .ensures, answers-room _ _ _ (omega (arith, counted .call-count .ensures, roomy .if1 .left))),

@@ -9,18 +9,23 @@ use Rattle.driver.proofs.run_all.Statement.{statement}
 use Rattle.driver.proofs.run_all.Tie as tie
 
 abbrev Inv-loop : tie.InvT-loop
-Inv-loop held₀ known₀ awaiting₀ clocks₀ operations₀ contexts₀ order₀ stack₀ registers₀ saved₀ responses₀ s count out₀ panel₀ counted₀ at₀ behind₀ i₀ held known awaiting clocks operations contexts order stack registers saved responses out panel counted at behind i =
-    Running (packed panel₀ counted₀ held₀ known₀ awaiting₀ clocks₀ operations₀ contexts₀ order₀ stack₀ registers₀ saved₀ responses₀)
-    s count out₀ out (packed panel counted held known awaiting clocks operations contexts order stack registers saved responses) at behind i
+Inv-loop held₀ known₀ awaiting₀ clocks₀ operations₀ contexts₀ order₀ stack₀ registers₀ saved₀ responses₀ settled₀ s count out₀ panel₀
+    counted₀ at₀ behind₀ i₀ held known awaiting clocks operations contexts order stack registers saved responses settled out panel counted
+    at behind i =
+    Running (packed panel₀ counted₀ held₀ known₀ awaiting₀ clocks₀ operations₀ contexts₀ order₀ stack₀ registers₀ saved₀ responses₀
+    settled₀) s count out₀ out (packed panel counted held known awaiting clocks operations contexts order stack registers saved responses
+    settled) at behind i
 
 abbrev μ-loop : tie.MeasureT-loop
-μ-loop held₀ known₀ awaiting₀ clocks₀ operations₀ contexts₀ order₀ stack₀ registers₀ saved₀ responses₀ s count out₀ panel₀ counted₀ at₀ behind₀ i₀ held known awaiting clocks operations contexts order stack registers saved responses out panel counted at behind i =
+μ-loop held₀ known₀ awaiting₀ clocks₀ operations₀ contexts₀ order₀ stack₀ registers₀ saved₀ responses₀ settled₀ s count out₀ panel₀
+    counted₀ at₀ behind₀ i₀ held known awaiting clocks operations contexts order stack registers saved responses settled out panel counted
+    at behind i =
     count - i
 
 -- ---- earlier places of the function, from later ones
 
-abbrev in-loop : tie.After-call-arg11 Inv-loop μ-loop → tie.In-loop Inv-loop μ-loop
-in-loop c = c .before .before .before .before .before .before .before .before .before .before .before
+abbrev in-loop : tie.After-call-arg12 Inv-loop μ-loop → tie.In-loop Inv-loop μ-loop
+in-loop c = c .before .before .before .before .before .before .before .before .before .before .before .before
 
 abbrev after-call : tie.After-slice-known2 Inv-loop μ-loop → tie.After-call Inv-loop μ-loop
 after-call c = c .before .before .before .before .before .before
@@ -36,7 +41,7 @@ within c = call-within _ _ _ _ (c .before .before .before .before .pre .1 .0) (c
 
 -- the turn of a call
 abbrev turn : tie.After-call Inv-loop μ-loop → tie.In-loop Inv-loop μ-loop
-turn c = c .before .before .before .before .before .before .before .before .before .before .before .before
+turn c = c .before .before .before .before .before .before .before .before .before .before .before .before .before
 
 loop-holds : tie.Need-loop-holds Inv-loop μ-loop
 loop-holds c =

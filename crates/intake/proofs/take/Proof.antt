@@ -18,15 +18,15 @@ start c = c .before
 abbrev hears : tie.After-deliver-arg12 → tie.After-enum-told
 hears c = c .before .before .before .before .before .before .before .before .before .before .before .before .before .before
 
-abbrev settles : tie.After-commit-arg10 → tie.After-enum-told2
-settles c = c .before .before .before .before .before .before .before .before .before .before .before
+abbrev settles : tie.After-commit-arg12 → tie.After-enum-told2
+settles c = c .before .before .before .before .before .before .before .before .before .before .before .before .before
 
 -- a panel with the parts lent
 abbrev lent : tie.Start → State → State
 lent a =
     takeParts (a .args .panels) (a .args .own) (lentNow (a .args .committed) (a .args .ordered) (a .args .executed) (a .args .commits)
     (a .args .held) (a .args .known) (a .args .awaiting) (a .args .clocks) (a .args .operations) (a .args .contexts) (a .args .order)
-    (a .args .stack) (a .args .responses))
+    (a .args .stack) (a .args .responses) (a .args .settled))
 
 -- ---- what the function needs
 
@@ -35,7 +35,7 @@ enum-told c = search needs
 
 -- the type of the context's array says how many words there are
 count : (c : tie.Start) → length (c .args .m .request .context .words) ≡ mostPanels
-count c = let words = c .good .1 .1 .1 .1 .1 .1 .1 .1 .1 .1 .1 .1 .1 .1 .1 .0 .1 .1 .1 .0 .1 .1 .0 .1 .1 .0 in search needs
+count c = let words = c .good .1 .1 .1 .1 .1 .1 .1 .1 .1 .1 .1 .1 .1 .1 .1 .1 .0 .1 .1 .1 .0 .1 .1 .0 .1 .1 .0 in search needs
 
 deliver-requires : tie.Need-deliver-requires
 deliver-requires c κs =

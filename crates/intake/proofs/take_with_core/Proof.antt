@@ -5,14 +5,15 @@ use borrow.Author.Needs.{needs}
 use Rattle.intake.proofs.take_with_core.Statement.{statement}
 use Rattle.intake.proofs.take_with_core.Tie as tie
 
-abbrev start : tie.After-take-arg7 → tie.Start
-start c = c .before .before .before .before .before .before .before .before .before .before .before
+abbrev start : tie.After-take-arg8 → tie.Start
+start c = c .before .before .before .before .before .before .before .before .before .before .before .before
 
 -- a panel with the parts lent
 abbrev lent : tie.Start → State → State
 lent a =
     coreParts (a .args .core) (a .args .held .now) (a .args .known .now) (a .args .awaiting .now) (a .args .clocks .now)
     (a .args .operations .now) (a .args .contexts .now) (a .args .order .now) (a .args .stack .now) (a .args .responses .now)
+    (a .args .settled .now)
 
 take-requires : tie.Need-take-requires
 take-requires c κs = let a = start c in record { panel = lent a (a .pre .panel); invariant = a .pre .invariant }

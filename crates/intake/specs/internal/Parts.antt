@@ -40,10 +40,12 @@ pub record Lent : Type 0 where
   pub order : List ℕ
   pub stack : List ℕ
   pub responses : List ℕ
+  pub settled : List ℕ
 
 -- what references to them refer to: where they are passed, at a function's entry, and at its exit
-abbrev pub lentNow : (committed ordered executed commits : RefT ℕ) (held known awaiting clocks operations contexts order stack responses : RefT (List ℕ)) → Lent
-lentNow committed ordered executed commits held known awaiting clocks operations contexts order stack responses = record {
+abbrev pub lentNow : (committed ordered executed commits : RefT ℕ)
+    (held known awaiting clocks operations contexts order stack responses settled : RefT (List ℕ)) → Lent
+lentNow committed ordered executed commits held known awaiting clocks operations contexts order stack responses settled = record {
   committed = committed .now;
   ordered = ordered .now;
   executed = executed .now;
@@ -57,19 +59,20 @@ lentNow committed ordered executed commits held known awaiting clocks operations
   order = order .now;
   stack = stack .now;
   responses = responses .now;
+  settled = settled .now;
 }
 
 abbrev pub lentEntry : (committed ordered executed commits : Both (RefT ℕ) (RefT ℕ))
-    (held known awaiting clocks operations contexts order stack responses : Both (RefT (List ℕ)) (RefT (List ℕ))) → Lent
-lentEntry committed ordered executed commits held known awaiting clocks operations contexts order stack responses =
+    (held known awaiting clocks operations contexts order stack responses settled : Both (RefT (List ℕ)) (RefT (List ℕ))) → Lent
+lentEntry committed ordered executed commits held known awaiting clocks operations contexts order stack responses settled =
     lentNow (committed .entry) (ordered .entry) (executed .entry) (commits .entry) (held .entry) (known .entry) (awaiting .entry)
-    (clocks .entry) (operations .entry) (contexts .entry) (order .entry) (stack .entry) (responses .entry)
+    (clocks .entry) (operations .entry) (contexts .entry) (order .entry) (stack .entry) (responses .entry) (settled .entry)
 
 abbrev pub lentExit : (committed ordered executed commits : Both (RefT ℕ) (RefT ℕ))
-    (held known awaiting clocks operations contexts order stack responses : Both (RefT (List ℕ)) (RefT (List ℕ))) → Lent
-lentExit committed ordered executed commits held known awaiting clocks operations contexts order stack responses =
+    (held known awaiting clocks operations contexts order stack responses settled : Both (RefT (List ℕ)) (RefT (List ℕ))) → Lent
+lentExit committed ordered executed commits held known awaiting clocks operations contexts order stack responses settled =
     lentNow (committed .exit) (ordered .exit) (executed .exit) (commits .exit) (held .exit) (known .exit) (awaiting .exit) (clocks .exit)
-    (operations .exit) (contexts .exit) (order .exit) (stack .exit) (responses .exit)
+    (operations .exit) (contexts .exit) (order .exit) (stack .exit) (responses .exit) (settled .exit)
 
 -- a panel of that shop and own number, with those parts
 abbrev pub takeParts : ℕ → PanelNo → Lent → State → State
@@ -95,6 +98,7 @@ takeParts panels own l p = record {
   registers = p .registers;
   saved = p .saved;
   responses = l .responses;
+  settled = setOf (l .settled);
 }
 
 -- they are the parts of a panel that came from fresh and the calls
@@ -132,17 +136,17 @@ nothing w = record { answer = refusedWith w noNumber; taken = 0 }
 -- ---- for a caller that has a panel's numbers by value
 
 -- a panel with that core and those arrays
-abbrev pub coreParts : Core → (held known awaiting clocks operations contexts order stack responses : List ℕ) → State → State
-coreParts core held known awaiting clocks operations contexts order stack responses p =
-    packed core (p .counters) held known awaiting clocks operations contexts order stack (p .registers) (p .saved) responses
+abbrev pub coreParts : Core → (held known awaiting clocks operations contexts order stack responses settled : List ℕ) → State → State
+coreParts core held known awaiting clocks operations contexts order stack responses settled p =
+    packed core (p .counters) held known awaiting clocks operations contexts order stack (p .registers) (p .saved) responses settled
 
-abbrev pub TakeCoreAsks : Core → (held known awaiting clocks operations contexts order stack responses : List ℕ) → Type 0
-TakeCoreAsks core held known awaiting clocks operations contexts order stack responses =
-    Asks (coreParts core held known awaiting clocks operations contexts order stack responses)
+abbrev pub TakeCoreAsks : Core → (held known awaiting clocks operations contexts order stack responses settled : List ℕ) → Type 0
+TakeCoreAsks core held known awaiting clocks operations contexts order stack responses settled =
+    Asks (coreParts core held known awaiting clocks operations contexts order stack responses settled)
 
-abbrev pub TakenByCore : Core → (held known awaiting clocks operations contexts order stack responses : List ℕ) → BusMessage
-    → (held′ known′ awaiting′ clocks′ operations′ contexts′ order′ : List ℕ) → CallResult → Type 0
-TakenByCore core held known awaiting clocks operations contexts order stack responses m held′ known′ awaiting′ clocks′ operations′
-    contexts′ order′ r =
-    KeptBy (coreParts core held known awaiting clocks operations contexts order stack responses)
-    (coreParts (r .core) held′ known′ awaiting′ clocks′ operations′ contexts′ order′ stack responses) (callOf m) (r .answer)
+abbrev pub TakenByCore : Core → (held known awaiting clocks operations contexts order stack responses settled : List ℕ) → BusMessage
+    → (held′ known′ awaiting′ clocks′ operations′ contexts′ order′ settled′ : List ℕ) → CallResult → Type 0
+TakenByCore core held known awaiting clocks operations contexts order stack responses settled m held′ known′ awaiting′ clocks′ operations′
+    contexts′ order′ settled′ r =
+    KeptBy (coreParts core held known awaiting clocks operations contexts order stack responses settled)
+    (coreParts (r .core) held′ known′ awaiting′ clocks′ operations′ contexts′ order′ stack responses settled′) (callOf m) (r .answer)

@@ -45,7 +45,7 @@ abbrev numbers : List (Read T.the-row T′.mir)
 numbers = panels-read ∷ ordered-read ∷ []
 
 abbrev lent : List Choice
-lent = is-changed ∷ stays ∷ is-changed ∷ stays ∷ is-changed ∷ stays ∷ stays ∷ stays ∷ stays ∷ stays ∷ is-read-first ∷ is-changed ∷ is-changed ∷ stays ∷ is-read ∷ is-read ∷ is-changed ∷ is-read ∷ stays ∷ stays ∷ is-read ∷ []
+lent = is-changed ∷ stays ∷ is-changed ∷ stays ∷ is-changed ∷ stays ∷ stays ∷ stays ∷ stays ∷ stays ∷ is-read-first ∷ is-changed ∷ is-changed ∷ is-read ∷ is-read ∷ is-read ∷ is-changed ∷ is-read ∷ stays ∷ stays ∷ is-read ∷ is-changed ∷ []
 
 pub mizzencord-commit-spec : {M : Type 1} → stated.statement M
 unfolding code.routine tablesOf
@@ -63,7 +63,7 @@ mizzencord-commit-spec 𝓤 H 𝓜 𝓖 𝓡 =
     record {
       typed = λ bs. ((tt, tt), (settled .typed 𝓤 H (𝓖 .A) W (a .0) (are .0), tt));
       fields-read = λ bs. (((tt, refl), (tt, refl)), (((tt, refl), (tt, refl)), tt));
-      fields-lent = λ bs. (search, (search, (search, (search, (search, (search, (search, (search, (search, (search, (search, tt)))))))))));
+      fields-lent = λ bs. (search, (search, (search, (search, (search, (search, (search, (search, (search, (search, (search, (search, (search, tt)))))))))))));
       runs-middle = λ bs told k.
           let after = left lent (settled .type ∷ []) h numbers in
           lends-to ! (fmOf 𝓤 H (W .laws) 𝓣) (blocks 𝓤 H (all-locals F [] numbers answer lent []) bs) vs operands result-local b o answer
@@ -74,6 +74,6 @@ mizzencord-commit-spec 𝓤 H 𝓜 𝓖 𝓡 =
           (had lent (settled .type ∷ []) h 𝓤 H (𝓖 .A) W b o a numbers (settled .spelt .val (a .0) ∷ [], tt) told
           (settled .makes 𝓤 H (𝓖 .A) W (a .0) _ (are .0), tt))
           (factI 𝓤 _ _ (record { panel = memory h; invariant = ok })) (λ κ ns. known _)
-          ((tt, refl), ((tt, refl), ((tt, refl), ((tt, refl), ((tt, refl), ((tt, refl), ((tt, refl), ((tt, refl), ((tt, refl), ((tt, refl), ((tt, refl), ((tt, refl), ((tt, refl), ((tt, refl), tt)))))))))))))) tt refl
+          ((tt, refl), ((tt, refl), ((tt, refl), ((tt, refl), ((tt, refl), ((tt, refl), ((tt, refl), ((tt, refl), ((tt, refl), ((tt, refl), ((tt, refl), ((tt, refl), ((tt, refl), ((tt, refl), ((tt, refl), ((tt, refl), tt)))))))))))))))) tt refl
           (λ r zs is kept. k r (after zs) vs is (factI 𝓤 _ _ (kept .kept (memory h) ok)) tt);
     }))

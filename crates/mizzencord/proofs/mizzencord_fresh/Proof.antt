@@ -82,7 +82,7 @@ between = opening .ty ∷ []
 
 -- what becomes of each field
 abbrev lent : List Choice
-lent = is-changed ∷ is-changed ∷ is-changed ∷ is-changed ∷ is-changed ∷ is-changed ∷ stays ∷ is-changed ∷ stays ∷ is-changed ∷ is-changed ∷ is-changed ∷ is-changed ∷ is-changed ∷ is-changed ∷ is-changed ∷ is-changed ∷ is-changed ∷ is-changed ∷ is-changed ∷ is-changed ∷ []
+lent = is-changed ∷ is-changed ∷ is-changed ∷ is-changed ∷ is-changed ∷ is-changed ∷ stays ∷ is-changed ∷ stays ∷ is-changed ∷ is-changed ∷ is-changed ∷ is-changed ∷ is-changed ∷ is-changed ∷ is-changed ∷ is-changed ∷ is-changed ∷ is-changed ∷ is-changed ∷ is-changed ∷ is-changed ∷ []
 
 abbrev operands : List ℕ
 operands = part-locals F between [] lent ++ further-locals F
@@ -154,19 +154,19 @@ mizzencord-fresh-spec 𝓤 H 𝓜 𝓖 𝓡 =
     record {
       typed = λ bs. ((tt, tt), (number w8 .typed 𝓤 H (𝓖 .A) W (a .0) (are .0), (own .typed 𝓤 H (𝓖 .A) W (a .1 .0) (are .1 .0), tt)));
       fields-read = λ bs. tt;
-      fields-lent = λ bs. (search, (search, (search, (search, (search, (search, (search, (search, (search, (search, (search, (search, (search, (search, (search, (search, (search, (search, (search, tt)))))))))))))))))));
+      fields-lent = λ bs. (search, (search, (search, (search, (search, (search, (search, (search, (search, (search, (search, (search, (search, (search, (search, (search, (search, (search, (search, (search, tt))))))))))))))))))));
       runs-middle = λ bs told k.
           let E = blocks 𝓤 H (all-locals F between [] (number w8) lent []) bs in
           let after = left lent Rs h [] in
           lends-to ! (fmOf 𝓤 H (W .laws) 𝓣) E vs operands (done-local F) b o opening (passes lent Rs [])
           (spelled lent Rs h [] (vint w8 (a .0) ∷ [], (own .spelt .val (a .1 .0) ∷ [], tt))) (emp 𝓤)
-          (λ r zs. let z = after zs in FreshKept (a .0) (a .1 .0 .0) (z .held) (z .known) (z .awaiting) (z .clocks) (z .operations) (z .contexts) (z .order) (z .stack) (z .registers) (z .saved) (z .responses)
+          (λ r zs. let z = after zs in FreshKept (a .0) (a .1 .0 .0) (z .held) (z .known) (z .awaiting) (z .clocks) (z .operations) (z .contexts) (z .order) (z .stack) (z .registers) (z .saved) (z .responses) (z .settled)
           (openedBy (z .committed) (z .ordered) (z .executed) (z .stacked) (z .commits) (z .clock) (z .panels) (z .events) r))
           (loan lent Rs h 𝓤 H (𝓖 .A) W b o a [])
           (had lent Rs h 𝓤 H (𝓖 .A) W b o a [] (vint w8 (a .0) ∷ [], (own .spelt .val (a .1 .0) ∷ [], tt)) told
           (number w8 .makes 𝓤 H (𝓖 .A) W (a .0) _ (are .0), (own .makes 𝓤 H (𝓖 .A) W (a .1 .0) _ (are .1 .0), tt))) (id⊢ 𝓤 _)
           (λ κ ns. known _)
-          ((tt, refl), ((tt, refl), ((tt, refl), ((tt, refl), ((tt, refl), ((tt, refl), ((tt, refl), ((tt, refl), ((tt, refl), ((tt, refl), ((tt, refl), ((tt, refl), ((tt, refl), ((tt, refl), ((tt, refl), ((tt, refl), ((tt, refl), ((tt, refl), ((tt, refl), ((tt, refl), ((tt, refl), tt))))))))))))))))))))) tt refl
+          ((tt, refl), ((tt, refl), ((tt, refl), ((tt, refl), ((tt, refl), ((tt, refl), ((tt, refl), ((tt, refl), ((tt, refl), ((tt, refl), ((tt, refl), ((tt, refl), ((tt, refl), ((tt, refl), ((tt, refl), ((tt, refl), ((tt, refl), ((tt, refl), ((tt, refl), ((tt, refl), ((tt, refl), ((tt, refl), tt)))))))))))))))))))))) tt refl
           (λ r zs is kept.
           let us = set vs (done-local F) (some (opening .spelt .val r)) in
           let z = after zs in

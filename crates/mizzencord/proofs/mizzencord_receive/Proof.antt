@@ -66,7 +66,7 @@ abbrev numbers : List (Read T.the-row T′.mir)
 numbers = panels-read ∷ own-read ∷ []
 
 abbrev lent : List Choice
-lent = is-changed ∷ is-changed ∷ is-changed ∷ stays ∷ is-changed ∷ stays ∷ stays ∷ stays ∷ stays ∷ stays ∷ is-changed ∷ is-changed ∷ is-changed ∷ is-changed ∷ is-changed ∷ is-changed ∷ is-changed ∷ is-read-first ∷ stays ∷ stays ∷ is-read ∷ []
+lent = is-changed ∷ is-changed ∷ is-changed ∷ stays ∷ is-changed ∷ stays ∷ stays ∷ stays ∷ stays ∷ stays ∷ is-changed ∷ is-changed ∷ is-changed ∷ is-changed ∷ is-changed ∷ is-changed ∷ is-changed ∷ is-read-first ∷ stays ∷ stays ∷ is-read ∷ is-changed ∷ []
 
 -- what the callee is passed behind the bytes
 abbrev ps : List Pass
@@ -97,7 +97,7 @@ mizzencord-receive-spec 𝓤 H 𝓜 𝓖 𝓡 =
         ),
       );
       fields-read = λ bs. (((tt, refl), (tt, refl)), (((tt, refl), (tt, refl)), tt));
-      fields-lent = λ bs. (search, (search, (search, (search, (search, (search, (search, (search, (search, (search, (search, (search, (search, tt)))))))))))));
+      fields-lent = λ bs. (search, (search, (search, (search, (search, (search, (search, (search, (search, (search, (search, (search, (search, (search, tt))))))))))))));
       runs-middle = λ bs told k.
           let after = left lent [] h numbers in
           lends-behind ! (fmOf 𝓤 H (W .laws) 𝓣) (blocks 𝓤 H (all-locals bytes-and-place [] numbers receipt lent []) bs) vs operands
@@ -107,6 +107,6 @@ mizzencord-receive-spec 𝓤 H 𝓜 𝓖 𝓡 =
           (with-value 𝓤 H (𝓖 .A) W b o _ (a .1 .0) (loan lent [] h 𝓤 H (𝓖 .A) W b o tt numbers))
           (number w64 .makes 𝓤 H (𝓖 .A) W (a .1 .0) _ (are .1 .0), had lent [] h 𝓤 H (𝓖 .A) W b o tt numbers tt told tt)
           (factI 𝓤 _ _ (record { panel = memory h; invariant = ok })) (λ κ ns. known _)
-          ((tt, refl), ((tt, refl), ((tt, refl), ((tt, refl), ((tt, refl), ((tt, refl), ((tt, refl), ((tt, refl), ((tt, refl), ((tt, refl), ((tt, refl), ((tt, refl), ((tt, refl), ((tt, refl), ((tt, refl), ((tt, refl), ((tt, refl), tt))))))))))))))))) tt refl
+          ((tt, refl), ((tt, refl), ((tt, refl), ((tt, refl), ((tt, refl), ((tt, refl), ((tt, refl), ((tt, refl), ((tt, refl), ((tt, refl), ((tt, refl), ((tt, refl), ((tt, refl), ((tt, refl), ((tt, refl), ((tt, refl), ((tt, refl), ((tt, refl), tt)))))))))))))))))) tt refl
           (λ r zs is kept. k r (after (zs .1)) vs is (factI 𝓤 _ _ (kept .kept (memory h) ok)) tt);
     }))

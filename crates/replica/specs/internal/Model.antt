@@ -19,6 +19,7 @@ use Rattle.registers.specs.Replay.{replay}
 use Rattle.lists.specs.Lists.{one, count}
 use Rattle.lists.specs.Places.{All}
 use Rattle.slots.specs.Slots.{IsSlot}
+use Rattle.slots.specs.Marks.{Marks}
 use Rattle.store.specs.Requests.{requestAt, Long}
 use Rattle.creek.specs.Plan.{Plan, lastEvent, lastClock}
 use Rattle.creek.specs.Book.{Book}
@@ -103,6 +104,7 @@ pub record Lengths (q : State) : Type 0 where
   pub responses : length (q .responses) ≡ mostRequests
   pub held : length (q .held .words) ≡ mostPanels
   pub awaiting : length (q .awaiting .words) ≡ mostPanels
+  pub settled : length (q .settled .words) ≡ mostPanels
 
 -- the registers, and by place on the board what is kept to roll back and to reply
 pub record Log (board : List Request) (registers saved responses : List ℕ) : Type 0 where
@@ -116,6 +118,8 @@ pub record Inv (q : State) : Type 0 where
   pub lengths : Lengths q
   -- the set of numbers held has those of the standing order
   pub held : (slot : ℕ) → IsSlot slot → count (eqb slot) (orderSlots q) ≡ one (member (q .held) (numberOf slot))
+  -- the set of numbers settled has those of the committed requests
+  pub settled : Marks (q .order) (q .committed) (q .settled .words)
   -- in the standing order and on the board stand slots
   pub order-slots : All IsSlot (orderSlots q)
   pub board-slots : All IsSlot (boardSlots q)

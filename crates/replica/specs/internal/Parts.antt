@@ -56,16 +56,18 @@ standing panels own committed p = record {
   registers = p .registers;
   saved = p .saved;
   responses = p .responses;
+  settled = p .settled;
 }
 
 -- ---- fresh
 
 -- core, counters and lent arrays are those that fresh of that shop leads to
-pub record FreshKept (panels own : ℕ) (held known awaiting clocks operations contexts order stack registers saved responses : List ℕ)
+pub record FreshKept (panels own : ℕ)
+    (held known awaiting clocks operations contexts order stack registers saved responses settled : List ℕ)
     (r : FreshResult) : Type 0 where
   pub opened : Fresh panels own (record {
     refusal = r .refusal;
-    state = packed (r .core) (r .counters) held known awaiting clocks operations contexts order stack registers saved responses;
+    state = packed (r .core) (r .counters) held known awaiting clocks operations contexts order stack registers saved responses settled;
   })
 
 -- fresh left those numbers, and returned r
@@ -112,6 +114,7 @@ withNumbers committed ordered executed stacked commits counters p = record {
   registers = p .registers;
   saved = p .saved;
   responses = p .responses;
+  settled = p .settled;
 }
 
 abbrev pub withOrdered : ℕ → State → State
@@ -141,7 +144,7 @@ pub record RegisterKept (registers : List ℕ) (k : ℕ) (r : RegisterValue) : T
 abbrev pub placeParts : ℕ → (clocks operations contexts order : List ℕ) → State → State
 placeParts ordered clocks operations contexts order p =
     packed (withOrdering (coreIn p) ordered) (p .counters) (p .held .words) (p .known .words) (p .awaiting .words) clocks operations contexts order
-    (p .stack) (p .registers) (p .saved) (p .responses)
+    (p .stack) (p .registers) (p .saved) (p .responses) (p .settled .words)
 
 abbrev pub PlaceAsks : ℕ → (clocks operations contexts order : List ℕ) → Type 0
 PlaceAsks ordered clocks operations contexts order = Asks (placeParts ordered clocks operations contexts order)

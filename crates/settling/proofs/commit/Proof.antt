@@ -1,22 +1,25 @@
 -- `settling::commit` meets its contract; the outcome is in `SettlingLaws`, the refusals in `SettlingRefusalLaws`.
 use Prim.Native.Nat.{_≤_}
 use native.Mathlib.Omega.{arith}
-use mathlib.Core.Path.{_≡_, refl, ap, _∙_}
+use mathlib.Core.Path.{_≡_, refl, ap, subst, _∙_}
 use mathlib.Core.Bool.{Bool, _&&_}
 use lib.ListN.{getD}
 use lib.Dec.{leb}
 use Rattle.slots.specs.Slots.{IsSlot}
 use Rattle.slots.specs.Settlement.{Settled}
+use Rattle.slots.specs.Marks.{Marked}
+use Rattle.numbers.specs.internal.Slots.{slotOf}
 use Rattle.store.specs.Requests.{askedIn, contextAt}
+use Rattle.sets.specs.declared.Context.{Context}
 use Rattle.sets.specs.Sets.{setOf}
 use Rattle.creek.specs.internal.Sound.{mostRequests}
 use Rattle.replica.specs.State.{State}
 use Rattle.replica.specs.internal.Model.{Inv}
 use Rattle.creek.specs.Replies.{replyAnswer}
 use Rattle.settling.specs.Settling.{heldAnswer, lentNow, commitParts}
-use Rattle.settling.proofs.SettlingHeldLaws.{HeldAt, held-slot}
+use Rattle.settling.proofs.SettlingHeldLaws.{HeldAt, held-slot, good-widened}
 use Rattle.settling.proofs.SettlingRefusalLaws.{kept-by-number, number-passed, Settles, kept-by-held, settles}
-use Rattle.settling.proofs.SettlingLaws.{commits-fit, commit-asks, start-asks, settled-kept}
+use Rattle.settling.proofs.SettlingLaws.{commits-fit, moves-asks, start-asks, settled-kept}
 use borrow.Author.Needs.{needs}
 use Rattle.settling.proofs.commit.Statement.{statement}
 use Rattle.settling.proofs.commit.Tie as tie
@@ -35,12 +38,16 @@ abbrev slotted : tie.Else2 → tie.After-slot-of
 slotted c = read c .before .before
 
 -- past both tests, from where the order is settled
-abbrev tested : tie.After-settle-order → tie.Else2
-tested c = c .before .before .before .before .before .before
+abbrev tested : tie.After-settle-moving → tie.Else2
+tested c = c .before .before .before .before .before .before .before
 
--- where the order is settled, from where the last place to compare is known
-abbrev settled : tie.After-lower2 → tie.After-settle-order
-settled c = c .before .before
+-- where the set of the settled is marked, from where the last place to compare is known
+abbrev marked : tie.After-lower2 → tie.After-mark
+marked c = c .before .before
+
+-- where the order is settled, from there
+abbrev settled : tie.After-lower2 → tie.After-settle-moving
+settled c = marked c .before .before .before
 
 -- where that place is known, from where the executed list is adjusted to the order
 abbrev bounded : tie.After-agreed → tie.After-lower2
@@ -58,7 +65,8 @@ joined c = c .before .before .before
 abbrev lent : tie.Start → State → State
 lent a =
     commitParts (a .args .panels) (a .args .ordered) (lentNow (a .args .committed) (a .args .executed) (a .args .commits) (a .args .held)
-    (a .args .known) (a .args .awaiting) (a .args .operations) (a .args .contexts) (a .args .order) (a .args .stack) (a .args .responses))
+    (a .args .known) (a .args .awaiting) (a .args .clocks) (a .args .operations) (a .args .contexts) (a .args .order) (a .args .stack)
+    (a .args .responses) (a .args .settled))
 
 -- ---- what is known there
 
@@ -90,16 +98,27 @@ to-settle c p inv =
     settles {p = lent (start slot) p} inv (held-at slot p inv) (answer-is (c .before .before)) (c .if2 .left)
 
 -- the order is settled with the context that is kept
-settled-by : (c : tie.After-settle-order)
+settled-by : (c : tie.After-settle-moving)
     → let slot = slotted (tested c) in
     let a = start slot in
     Settled (a .args .order .now) (a .args .committed .now) (a .args .ordered)
-    (contextAt (a .args .contexts .now) (slot .slot-of .result) .words) (slot .slot-of .result) (c .settle-order .last .0)
-    (c .settle-order .result .committed) (c .settle-order .result .end)
-settled-by c = rw (read (tested c) .context-at .ensures) at (c .settle-order .ensures)
+    (contextAt (a .args .contexts .now) (slot .slot-of .result) .words) (slot .slot-of .result) (c .settle-moving .last .0)
+    (c .settle-moving .result .committed) (c .settle-moving .result .end)
+settled-by c = rw (read (tested c) .context-at .ensures) at (c .settle-moving .ensures)
+
+-- and the set of the settled is marked with it
+marked-with : (c : tie.After-lower2)
+    → let slot = slotted (tested (settled c)) in
+    let a = start slot in
+    Marked (a .args .settled .now) (contextAt (a .args .contexts .now) (slot .slot-of .result) .words) (slotOf (a .args .n))
+    (marked c .mark .last .0)
+marked-with c =
+    let a = start (slotted (tested (settled c))) in
+    subst (λ (x : Context). Marked (a .args .settled .now) (x .words) (slotOf (a .args .n)) (marked c .mark .last .0))
+    (read (tested (settled c)) .context-at .ensures) (marked c .mark .ensures)
 
 -- how many are committed afterwards
-committed-fits : (c : tie.After-settle-order) → c .settle-order .result .committed ≤ mostRequests
+committed-fits : (c : tie.After-settle-moving) → c .settle-moving .result .committed ≤ mostRequests
 committed-fits c = omega (arith, settled-by c, start (slotted (tested c)) .pre .invariant .counts)
 
 -- ---- what the function needs
@@ -145,14 +164,25 @@ returns-2 c =
       kept = λ p inv. kept-by-held {p = lent (start slot) p} inv (held-at slot p inv) (answer-is found) (c .if2 .taken);
     }
 
-settle-order-requires : tie.Need-settle-order-requires
-settle-order-requires c κs =
-    let else = c .before .before .before .before .before in
+settle-moving-requires : tie.Need-settle-moving-requires
+settle-moving-requires c κs =
+    let else = c .before .before .before .before .before .before in
     let slot = slotted else in
     let a = start slot in
     rw (read else .context-at .ensures)
-    (commit-asks {p = lent a (a .pre .panel)} (a .pre .invariant) (held-at slot (a .pre .panel) (a .pre .invariant))
+    (moves-asks {p = lent a (a .pre .panel)} (a .pre .invariant) (held-at slot (a .pre .panel) (a .pre .invariant))
     (to-settle else (a .pre .panel) (a .pre .invariant)))
+
+-- the set of the settled has eight words, and the number is good
+mark-requires : tie.Need-mark-requires
+mark-requires c κs =
+    let slot = slotted (tested (c .before .before)) in
+    let a = start slot in
+    let p = lent a (a .pre .panel) in
+    record {
+      long = a .pre .invariant .lengths .settled;
+      number = good-widened {p = p} (a .pre .invariant) (held-at slot (a .pre .panel) (a .pre .invariant) .good);
+    }
 
 lower-requires : tie.Need-lower-requires
 lower-requires c κs = search needs
@@ -220,11 +250,12 @@ returns-3 c =
           (execution .before .common-start .ensures)
           (execution .agreed .ensures)
           refl
-          (ap (λ (b : Bool). b && leb (order .settle-order .result .committed) (execution .agreed .result))
+          (ap (λ (b : Bool). b && leb (order .settle-moving .result .committed) (execution .agreed .result))
           (known .before .before .member .ensures))
           (known .join .ensures)
           (left .before .before .settled-reply .ensures)
-          (left .end-waiting .ensures);
+          (left .end-waiting .ensures)
+          (marked-with last);
     }
 
 pub commit-spec : {M : Type 1} → statement M
@@ -241,7 +272,8 @@ commit-spec =
     context-at-requires
     held-reply-requires
     returns-2
-    settle-order-requires
+    settle-moving-requires
+    mark-requires
     lower-requires
     lower-requires-2
     common-start-requires

@@ -4,7 +4,7 @@ use Rattle.settling.proofs.commit_answer.Statement.{statement}
 use Rattle.settling.proofs.commit_answer.Tie as tie
 
 commit-requires : tie.Need-commit-requires
-commit-requires c κs = c .before .before .before .before .before .before .pre
+commit-requires c κs = c .before .before .before .before .before .before .before .pre
 
 answer-of-requires : tie.Need-answer-of-requires
 answer-of-requires c κs = search needs

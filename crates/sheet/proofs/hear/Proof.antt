@@ -7,7 +7,7 @@ use Rattle.sheet.proofs.hear.Tie as tie
 
 -- where the answer is known to be a message
 abbrev told : tie.After-take-in → tie.After-enum-told
-told c = c .before .before .before .before .before .before .before .before .before .before .before .before
+told c = c .before .before .before .before .before .before .before .before .before .before .before .before .before
 
 enum-told : tie.Need-enum-told
 enum-told c = search needs

@@ -11,32 +11,32 @@ use Rattle.sheet.proofs.put_messages.Statement.{statement}
 use Rattle.sheet.proofs.put_messages.Tie as tie
 
 abbrev Inv-loop : tie.InvT-loop
-Inv-loop out₀ from input held₀ known₀ awaiting₀ clocks₀ operations₀ contexts₀ order₀ stack₀ registers₀ saved₀ responses₀ after₀ counted₀
-    at₀ behind₀ place₀ out held known awaiting clocks operations contexts order stack registers saved responses after counted at behind
-    place =
+Inv-loop out₀ from input held₀ known₀ awaiting₀ clocks₀ operations₀ contexts₀ order₀ stack₀ registers₀ saved₀ responses₀ settled₀ after₀
+    counted₀ at₀ behind₀ place₀ out held known awaiting clocks operations contexts order stack registers saved responses settled after
+    counted at behind place =
     Putting
-    (model (packed after₀ counted₀ held₀ known₀ awaiting₀ clocks₀ operations₀ contexts₀ order₀ stack₀ registers₀ saved₀ responses₀))
-    input out₀ from out
-    (packed after counted held known awaiting clocks operations contexts order stack registers saved responses)
+    (model (packed after₀ counted₀ held₀ known₀ awaiting₀ clocks₀ operations₀ contexts₀ order₀ stack₀ registers₀ saved₀ responses₀
+    settled₀)) input out₀ from out
+    (packed after counted held known awaiting clocks operations contexts order stack registers saved responses settled)
     at behind place
 
 abbrev μ-loop : tie.MeasureT-loop
-μ-loop out₀ from input held₀ known₀ awaiting₀ clocks₀ operations₀ contexts₀ order₀ stack₀ registers₀ saved₀ responses₀ after₀ counted₀
-    at₀ behind₀ place₀ out held known awaiting clocks operations contexts order stack registers saved responses after counted at behind
-    place =
+μ-loop out₀ from input held₀ known₀ awaiting₀ clocks₀ operations₀ contexts₀ order₀ stack₀ registers₀ saved₀ responses₀ settled₀ after₀
+    counted₀ at₀ behind₀ place₀ out held known awaiting clocks operations contexts order stack registers saved responses settled after
+    counted at behind place =
     length input - at
 
 -- ---- earlier places of the function, from later ones
 
-abbrev after-read : tie.After-hear-arg11 Inv-loop μ-loop → tie.After-read Inv-loop μ-loop
-after-read c = c .before .before .before .before .before .before .before .before .before .before .before
+abbrev after-read : tie.After-hear-arg12 Inv-loop μ-loop → tie.After-read Inv-loop μ-loop
+after-read c = c .before .before .before .before .before .before .before .before .before .before .before .before
 
 abbrev after-hear : tie.After-slice-known2 Inv-loop μ-loop → tie.After-hear Inv-loop μ-loop
 after-hear c = c .before .before .before .before .before .before
 
 -- the turn in which a message is heard
 abbrev turn : tie.After-hear Inv-loop μ-loop → tie.After-read Inv-loop μ-loop
-turn c = c .before .before .before .before .before .before .before .before .before .before .before .before
+turn c = c .before .before .before .before .before .before .before .before .before .before .before .before .before
 
 abbrev start : tie.After-read Inv-loop μ-loop → tie.Start Inv-loop μ-loop
 start c = c .before .before .before .before .before

@@ -15,8 +15,9 @@ use Rattle.sheet.proofs.put_opened.Tie as tie
 
 -- ---- earlier places of the function, from later ones
 
-abbrev after-put-board : tie.After-put-messages-arg12 → tie.After-put-board
-after-put-board c = c .before .before .before .before .before .before .before .before .before .before .before .before .before .before
+abbrev after-put-board : tie.After-put-messages-arg13 → tie.After-put-board
+after-put-board c =
+    c .before .before .before .before .before .before .before .before .before .before .before .before .before .before .before
 
 abbrev after-put-messages-from-after-put-closing-arg3 : tie.After-put-closing-arg3 → tie.After-put-messages
 after-put-messages-from-after-put-closing-arg3 c = c .before .before .before .before .before
@@ -58,7 +59,7 @@ put-board-requires c κs =
 
 -- where the board's line was put
 abbrev board : tie.After-put-messages → tie.After-put-board
-board c = c .before .before .before .before .before .before .before .before .before .before .before .before .before .before .before
+board c = c .before .before .before .before .before .before .before .before .before .before .before .before .before .before .before .before
 
 put-messages-requires : tie.Need-put-messages-requires
 put-messages-requires c κs =

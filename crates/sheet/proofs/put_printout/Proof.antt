@@ -9,8 +9,8 @@ use Rattle.sheet.proofs.put_printout.Tie as tie
 
 -- ---- earlier places of the function, from later ones
 
-abbrev else-1 : tie.After-responses → tie.Else1
-else-1 c = c .before .before .before .before .before .before .before .before .before .before .before .before
+abbrev else-1 : tie.After-settled → tie.Else1
+else-1 c = c .before .before .before .before .before .before .before .before .before .before .before .before .before
 
 -- ---- under two bytes
 

@@ -9,11 +9,12 @@ use Rattle.sheet.proofs.put_shop.Tie as tie
 
 -- ---- earlier places of the function, from later ones
 
-abbrev else-1 : tie.After-put-opened-arg12 → tie.Else1
-else-1 c = c .before .before .before .before .before .before .before .before .before .before .before .before
+abbrev else-1 : tie.After-put-opened-arg13 → tie.Else1
+else-1 c = c .before .before .before .before .before .before .before .before .before .before .before .before .before
 
 abbrev start : tie.After-fresh-with-core → tie.Start
 start c = c .before .before .before .before .before .before .before .before .before .before .before .before .before .before .before .before
+    .before
 
 shared-slice-read-panels : tie.Need-shared-slice-read-panels
 shared-slice-read-panels c = search needs

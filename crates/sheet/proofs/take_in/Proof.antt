@@ -10,8 +10,8 @@ use Rattle.sheet.proofs.take_in.Tie as tie
 
 -- ---- earlier places of the function, from later ones
 
-abbrev start-from-after-take-arg9 : tie.After-take-with-core-arg9 → tie.Start
-start-from-after-take-arg9 c = c .before .before .before .before .before .before .before .before .before
+abbrev start-from-after-take-arg10 : tie.After-take-with-core-arg10 → tie.Start
+start-from-after-take-arg10 c = c .before .before .before .before .before .before .before .before .before .before
 
 abbrev after-take : tie.After-run-due-with-core-arg7 → tie.After-take-with-core
 after-take c = c .before .before .before .before .before .before .before .before
@@ -21,17 +21,17 @@ abbrev entered : tie.Start → State
 entered a =
     packed (a .args .core) (a .args .counters) (a .args .held .now) (a .args .known .now) (a .args .awaiting .now) (a .args .clocks .now)
     (a .args .operations .now) (a .args .contexts .now) (a .args .order .now) (a .args .stack .now) (a .args .registers .now)
-    (a .args .saved .now) (a .args .responses .now)
+    (a .args .saved .now) (a .args .responses .now) (a .args .settled .now)
 
 abbrev start : tie.After-take-with-core → tie.Start
-start c = c .before .before .before .before .before .before .before .before .before .before
+start c = c .before .before .before .before .before .before .before .before .before .before .before
 
 abbrev called : tie.After-run-due-with-core → tie.After-take-with-core
 called c = c .before .before .before .before .before .before .before .before .before
 
 take-with-core-requires : tie.Need-take-with-core-requires
 take-with-core-requires c κs =
-    let a = start-from-after-take-arg9 c in
+    let a = start-from-after-take-arg10 c in
     record { panel = entered a; invariant = a .pre }
 
 run-due-with-core-requires : tie.Need-run-due-with-core-requires

@@ -72,7 +72,7 @@ execute-requires : tie.Need-execute-requires
 execute-requires c κs = search needs
 
 add-more : tie.Need-add-more
-add-more c = search needs
+add-more c = omega (arith, asked (tested c) .place)
 
 put-on-requires : tie.Need-put-on-requires
 put-on-requires c κs = asked (tested (c .before .before .before .before)) .place

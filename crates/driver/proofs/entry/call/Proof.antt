@@ -29,14 +29,14 @@ then-3 c = c .before .before .before .before .before .before .before .before
 abbrev start-from-then-3 : tie.Then3 → tie.Start
 start-from-then-3 c = c .before .before .before .before .before
 
-abbrev after-read-from-after-message-call-arg9 : tie.After-message-call-arg9 → tie.After-read
-after-read-from-after-message-call-arg9 c = c .before .before .before .before .before .before .before .before .before .before
+abbrev after-read-from-after-message-call-arg10 : tie.After-message-call-arg10 → tie.After-read
+after-read-from-after-message-call-arg10 c = c .before .before .before .before .before .before .before .before .before .before .before
 
 abbrev start-from-after-read : tie.After-read → tie.Start
 start-from-after-read c = c .before .before .before .before .before .before
 
 abbrev after-read-from-after-message-call : tie.After-message-call → tie.After-read
-after-read-from-after-message-call c = c .before .before .before .before .before .before .before .before .before .before .before
+after-read-from-after-message-call c = c .before .before .before .before .before .before .before .before .before .before .before .before
 
 abbrev start-from-else-3 : tie.Else3 → tie.Start
 start-from-else-3 c = c .before .before .before .before .before
@@ -46,7 +46,7 @@ abbrev panel : tie.Start → State
 panel a =
     packed (a .args .core) (a .args .counters) (a .args .held .now) (a .args .known .now) (a .args .awaiting .now) (a .args .clocks .now)
     (a .args .operations .now) (a .args .contexts .now) (a .args .order .now) (a .args .stack .now) (a .args .registers .now)
-    (a .args .saved .now) (a .args .responses .now)
+    (a .args .saved .now) (a .args .responses .now) (a .args .settled .now)
 
 shared-slice-read-tag : tie.Need-shared-slice-read-tag
 shared-slice-read-tag c = search needs
@@ -94,7 +94,7 @@ read-requires c κs = search needs
 
 message-call-requires : tie.Need-message-call-requires
 message-call-requires c κs =
-    let read = after-read-from-after-message-call-arg9 c in
+    let read = after-read-from-after-message-call-arg10 c in
     let a = start-from-after-read read in
     record { panel = panel a; invariant = a .pre .0 }
 

@@ -14,17 +14,18 @@ start-from-after-invoke-with-core c = c .before .before .before .before .before 
 abbrev after-invocation-of : tie.After-invoke-with-core → tie.After-invocation-of
 after-invocation-of c = c .before .before .before .before .before .before .before .before
 
-abbrev start-from-after-take-with-core : tie.After-take-with-core-arg7 → tie.Start
-start-from-after-take-with-core c = c .before .before .before .before .before .before .before .before .before
+abbrev start-from-after-take-with-core : tie.After-take-with-core-arg8 → tie.Start
+start-from-after-take-with-core c = c .before .before .before .before .before .before .before .before .before .before
 
 abbrev else-1 : tie.After-take-with-core → tie.Else1
-else-1 c = c .before .before .before .before .before .before .before .before
+else-1 c = c .before .before .before .before .before .before .before .before .before
 
 -- a panel with the parts lent
 abbrev lent : tie.Start → State → State
 lent a =
     coreParts (a .args .core) (a .args .held .now) (a .args .known .now) (a .args .awaiting .now) (a .args .clocks .now)
     (a .args .operations .now) (a .args .contexts .now) (a .args .order .now) (a .args .stack .now) (a .args .responses .now)
+    (a .args .settled .now)
 
 invocation-of-requires : tie.Need-invocation-of-requires
 invocation-of-requires c κs = search needs

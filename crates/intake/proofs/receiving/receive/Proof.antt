@@ -6,8 +6,8 @@ use Rattle.intake.proofs.receiving.receive.Statement.{statement}
 use Rattle.intake.proofs.receiving.receive.Tie as tie
 
 -- where the head is known, from where the message is to be taken
-abbrev headed : tie.After-take-at-arg11 → tie.After-found
-headed c = c .before .before .before .before .before .before .before .before .before .before .before .before
+abbrev headed : tie.After-take-at-arg12 → tie.After-found
+headed c = c .before .before .before .before .before .before .before .before .before .before .before .before .before
 
 head-at-requires : tie.Need-head-at-requires
 head-at-requires c κs = search needs

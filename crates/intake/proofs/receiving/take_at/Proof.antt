@@ -18,21 +18,21 @@ use Rattle.intake.proofs.receiving.take_at.Tie as tie
 abbrev start : tie.After-shared-slice-known → tie.Start
 start c = c .before
 
-abbrev weak : tie.After-hear-at-arg11 → tie.After-enum-told
-weak c = c .before .before .before .before .before .before .before .before .before .before .before
+abbrev weak : tie.After-hear-at-arg12 → tie.After-enum-told
+weak c = c .before .before .before .before .before .before .before .before .before .before .before .before
 
-abbrev strong : tie.After-hear-at-arg22 → tie.After-enum-told2
-strong c = c .before .before .before .before .before .before .before .before .before .before .before
+abbrev strong : tie.After-hear-at-arg24 → tie.After-enum-told2
+strong c = c .before .before .before .before .before .before .before .before .before .before .before .before
 
-abbrev numbered : tie.After-commit-arg9 → tie.After-number-at
-numbered c = c .before .before .before .before .before .before .before .before .before .before
+abbrev numbered : tie.After-commit-arg11 → tie.After-number-at
+numbered c = c .before .before .before .before .before .before .before .before .before .before .before .before
 
 -- a panel with the parts lent
 abbrev lent : tie.Start → State → State
 lent a =
     takeParts (a .args .panels) (a .args .own) (lentNow (a .args .committed) (a .args .ordered) (a .args .executed) (a .args .commits)
     (a .args .held) (a .args .known) (a .args .awaiting) (a .args .clocks) (a .args .operations) (a .args .contexts) (a .args .order)
-    (a .args .stack) (a .args .responses))
+    (a .args .stack) (a .args .responses) (a .args .settled))
 
 -- the head is that of the kind told
 good : (c : tie.After-shared-slice-known) (k : Kind) → start c .args .kind ≡ k → GoodHead k (start c .args .bytes .now) (start c .args .at)
