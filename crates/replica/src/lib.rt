@@ -6,11 +6,12 @@
 // list. By place on the board `saved` has what to roll back from and `responses` the response. So adjusting only lowers `executed`, an undo
 // takes the last off the stack, and an execution puts one on.
 //
-// A call is given the core by value and lent the arrays that it uses, no others. Its contract holds of every panel with these parts that
-// came from fresh and the calls. The steps are not counted here: a call says how many it did, and whoever has the counters counts them.
+// A call takes the numbers that it reads and is lent the counts and the arrays that it uses, no others. Its contract holds of every panel
+// with these parts that came from fresh and the calls. The steps are not counted here: a call says how many it did, and whoever has the
+// counters counts them.
 //
-// Fresh is here, the showing calls in `showing`; invoke and deliver are the crate `entering`, commit is `settling`, undo, execute and all due
-// steps at once are `steps`. `State` of `specs/` is the memory as one record, `Model` maps it to a replica of `creek`.
+// Fresh is here, the showing calls in `showing`; invoke and deliver are the crate `entering`, commit is `settling`, undo and execute are
+// `steps`, all due steps at once are `due`. `State` of `specs/` is the memory as one record, `Model` maps it to a replica of `creek`.
 pub mod showing;
 
 use counters::Counters;
@@ -41,7 +42,7 @@ ghost use Rattle.creek.specs.Replies.{refusedWith, reply as replyOf, done as do
 ghost use Rattle.replica.specs.internal.Cores.{firstCore};
 ghost use Rattle.replica.specs.internal.Parts.{FreshKept, openedBy};
 
-// The small part of a panel's memory, which the calls take and return by value.
+// The numbers of a panel as one record, for callers that keep them by value.
 #[repr(C)]
 pub struct Core {
     pub panels: u8,
