@@ -6,7 +6,7 @@ use crate::replica::request;
 pub const MOST_REPLIES: usize = 64;
 
 /// The bytes of a panel.
-pub const PANEL_SIZE: usize = 47_608;
+pub const PANEL_SIZE: usize = 47_672;
 
 #[repr(C)]
 #[derive(Clone, Copy, Debug, Default, PartialEq, Eq)]
