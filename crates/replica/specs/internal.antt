@@ -2,3 +2,4 @@
 pub mod Cores
 pub mod Model
 pub mod Parts
+pub mod Whole

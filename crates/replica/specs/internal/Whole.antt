@@ -1,0 +1,70 @@
+-- A panel whose counts, counters and arrays are all lent: what the references to them refer to, as one memory. For callers that hold a
+-- panel in locals.
+use Prim.Native.Nat.{ℕ}
+use mathlib.Core.List.{List}
+use denote.Ref.{RefT}
+use denote.Triple.Both.{Both}
+use Rattle.numbers.specs.declared.PanelNo.{PanelNo}
+use Rattle.numbers.specs.Numbers.{clockReading}
+use Rattle.sets.specs.Sets.{setOf}
+use Rattle.replica.specs.State.{State}
+
+-- the numbers and words that are lent, at one moment
+abbrev pub NumberNow : Type 0
+NumberNow = RefT ℕ
+
+abbrev pub WordsNow : Type 0
+WordsNow = RefT (List ℕ)
+
+-- the same from a function's entry to its exit
+abbrev pub NumberLent : Type 0
+NumberLent = Both (RefT ℕ) (RefT ℕ)
+
+abbrev pub WordsLent : Type 0
+WordsLent = Both (RefT (List ℕ)) (RefT (List ℕ))
+
+-- the memory of a panel of that shop and own number, where it is passed
+abbrev pub wholeNow : ℕ → PanelNo → (committed ordered executed stacked commits clock events undos executions : NumberNow)
+    (held known awaiting clocks operations contexts order stack registers saved responses settled : WordsNow) → State
+wholeNow panels own committed ordered executed stacked commits clock events undos executions held known awaiting clocks operations contexts
+    order stack registers saved responses settled = record {
+      panels = panels;
+      own = own;
+      events = events .now;
+      clock = clockReading (clock .now);
+      committed = committed .now;
+      ordered = ordered .now;
+      executed = executed .now;
+      stacked = stacked .now;
+      commits = commits .now;
+      counters = record { undos = undos .now; executions = executions .now };
+      held = setOf (held .now);
+      known = setOf (known .now);
+      awaiting = setOf (awaiting .now);
+      clocks = clocks .now;
+      operations = operations .now;
+      contexts = contexts .now;
+      order = order .now;
+      stack = stack .now;
+      registers = registers .now;
+      saved = saved .now;
+      responses = responses .now;
+      settled = setOf (settled .now);
+    }
+
+-- the same at a function's entry, and at its exit
+abbrev pub wholeEntry : ℕ → PanelNo → (committed ordered executed stacked commits clock events undos executions : NumberLent)
+    (held known awaiting clocks operations contexts order stack registers saved responses settled : WordsLent) → State
+wholeEntry panels own committed ordered executed stacked commits clock events undos executions held known awaiting clocks operations contexts
+    order stack registers saved responses settled =
+    wholeNow panels own (committed .entry) (ordered .entry) (executed .entry) (stacked .entry) (commits .entry) (clock .entry)
+    (events .entry) (undos .entry) (executions .entry) (held .entry) (known .entry) (awaiting .entry) (clocks .entry) (operations .entry)
+    (contexts .entry) (order .entry) (stack .entry) (registers .entry) (saved .entry) (responses .entry) (settled .entry)
+
+abbrev pub wholeExit : ℕ → PanelNo → (committed ordered executed stacked commits clock events undos executions : NumberLent)
+    (held known awaiting clocks operations contexts order stack registers saved responses settled : WordsLent) → State
+wholeExit panels own committed ordered executed stacked commits clock events undos executions held known awaiting clocks operations contexts
+    order stack registers saved responses settled =
+    wholeNow panels own (committed .exit) (ordered .exit) (executed .exit) (stacked .exit) (commits .exit) (clock .exit) (events .exit)
+    (undos .exit) (executions .exit) (held .exit) (known .exit) (awaiting .exit) (clocks .exit) (operations .exit) (contexts .exit)
+    (order .exit) (stack .exit) (registers .exit) (saved .exit) (responses .exit) (settled .exit)
