@@ -4,11 +4,12 @@
  *
  * A panel is memory that the caller owns: make it with mizzencord_fresh, then hand it to the calls. A call changes that memory and
  * nothing else, keeps no pointer, asks for no heap and ends. Two calls on one panel must not run at the same time; panels are
- * independent. Every call answers every argument: a call that cannot be done is refused by a number and changes nothing. A panel's
- * bytes may be moved and copied, but not written by anybody else.
+ * independent. Every call answers every argument: a call that cannot be done is refused by a number and changes nothing, but for
+ * mizzencord_fresh, which makes a panel of the memory whatever it held. A panel's bytes may be moved and copied, but not written by
+ * anybody else, and are read by the revision of the library that wrote them.
  *
- * A run of bytes is a pointer and a length; the pointer is not null, even where the length is 0. The runs that one call is lent must not
- * overlap where one of them is written. Document 01's words: make is invoke, hear deliver, settle commit, carry out execute.
+ * A run of bytes is a pointer and a length; the pointer is not null, even where the length is 0. It must not overlap the panel of the same
+ * call, and the runs that one call is lent must not overlap where one of them is written. Document 01's words: make is invoke, hear deliver, settle commit, carry out execute.
  */
 #ifndef MIZZENCORD_H
 #define MIZZENCORD_H
