@@ -6,14 +6,15 @@ use native.Mathlib.Nat.{add-zero, sub-zero}
 use native.Mathlib.Omega.{arith}
 use lib.ListN.{length}
 use Rattle.wire.specs.Layout.{leastMessage}
-use Rattle.wire.specs.Reader.{Outcome, message, end, refused, answered, readAt}
+use Rattle.wire.specs.Reader.{Outcome, message, end, refused, readAt}
 use Rattle.wire.proofs.RoundTrip.{taken-least, taken-inside}
 use Rattle.intake.specs.Found.{passed, found, foundFrom}
-use Rattle.intake.specs.internal.Passing.{takenOf}
 
--- how many bytes an outcome takes where so many are left
+-- how many bytes an outcome takes where so many are left: those of a message, or all of them
 abbrev pub bytesOf : Outcome → ℕ → ℕ
-bytesOf o left = takenOf (answered o) left
+bytesOf (message m n) left = n
+bytesOf end left = left
+bytesOf (refused w) left = left
 
 -- n bytes, of those left, are taken: a whole message, or all of them
 pub data Takes (left : ℕ) (n : ℕ) : Type 0 where
@@ -21,7 +22,6 @@ pub data Takes (left : ℕ) (n : ℕ) : Type 0 where
   all : n ≡ left → Takes left n
 
 pub takes : (s : List ℕ) (at : ℕ) → at < length s → Takes (length s - at) (bytesOf (readAt s at) (length s - at))
-unfolding answered
 takes s at h = go (readAt s at) refl
   where
     go : (o : Outcome) → readAt s at ≡ o → Takes (length s - at) (bytesOf o (length s - at))
@@ -46,7 +46,6 @@ skipped s at (suc k) (suc left) =
     rw (e, f) (skipped s (suc at) k left)
 
 passed-is : (o : Outcome) (left : ℕ) → passed o left ≡ bytesOf o (suc left) - 1
-unfolding answered
 passed-is (message m n) left = refl
 passed-is end left = omega arith
 passed-is (refused w) left = omega arith

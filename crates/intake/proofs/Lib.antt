@@ -1,4 +1,3 @@
 -- The laws of taking in a message and of what is found in a run of bytes, for the crates above.
-pub mod ReadingLaws
 pub mod IntakeLaws
 pub mod FoundLaws

@@ -1,149 +1,123 @@
--- Laws of hearing and putting, in this order: a message that is taken in; lines; the loop over all that is found; the whole printout.
-use Prim.Native.Nat.{ℕ, _+_, _*_, _-_, _≤_, _<_, _^_}
+-- Laws of putting, in this order: what a receipt tells; a message's line; the loop over all that is found; the closing lines; the whole
+-- printout.
+use Prim.Native.Nat.{ℕ, suc, _+_, _*_, _-_, _≤_, _<_, _^_}
 use mathlib.Core.Path.{_≡_, refl, sym, ap, _∙_, subst}
 use mathlib.Core.Bool.{Bool, true, false}
-use mathlib.Core.List.{List, _++_}
+use mathlib.Core.List.{List, [], _∷_, _++_}
 use native.Mathlib.Numerals.{add-one}
 use native.Mathlib.Omega.{arith}
-use lib.ListN.{length, getD}
+use lib.ListN.{length, getD, length-append}
 use borrow.Author.Tests.{lt-ltb, le-ltb}
 use Rattle.numbers.specs.declared.Number.{Number}
+use Rattle.request.specs.Operations.{lastRegister}
 use Rattle.request.specs.Refusal as refusedBy
+use Rattle.parts.specs.Widths.{settlementWidths, decode}
+use Rattle.parts.specs.Contents.{numberFrom}
 use Rattle.text.specs.Placed.{Placed}
-use Rattle.text.proofs.PlacedLaws.{then, Left, left-start, left-step, left-end, nothing}
+use Rattle.text.proofs.PlacedLaws.{then, Left, left-start, left-step, left-end}
 use Rattle.report.specs.Lines.{boardLine, refusedLine, messageLine, unreadLine, totalsLine, registerLines}
 use Rattle.report.specs.Sizes.{mostMessageBytes}
 use Rattle.report.proofs.SizeLaws.{unread-short}
-use Rattle.creek.specs.declared.Answer.{Answer as Reply}
-use Rattle.creek.specs.Book.{Call}
-use Rattle.creek.specs.Calls.{Replica, badShop, freshRefusal, fresh, step, answer}
-use Rattle.creek.specs.Showing.{undosShown, executionsShown}
-use Rattle.replica.specs.State.{State, Called}
-use Rattle.due.specs.Due.{DueOutcome}
-use Rattle.replica.specs.Promises.{Kept}
-use Rattle.replica.specs.internal.Model.{model, Inv}
-use Rattle.due.specs.Due.{RunDue}
-use Rattle.replica.specs.Shown.{registersShown, committedShown}
-use Rattle.wire.specs.declared.Message.{Message}
-use Rattle.wire.specs.declared.Reading.{Reading}
-use Rattle.wire.specs.declared.ReadAnswer.the-variants.{Message as aMessage, End, Refused}
-use Rattle.wire.specs.declared.Subject.{Subject}
-use Rattle.wire.specs.declared.Subject.the-variants.{Request as aRequest, Settlement as aSettlement}
-use Rattle.wire.specs.Layout.{kindNumber, leastMessage}
-use Rattle.wire.specs.Message.{BusMessage, kindOf, said}
-use Rattle.wire.specs.Reader.{message, answered, readAt}
-use Rattle.sheet.specs.declared.Heard.{Heard}
-use Rattle.sheet.specs.declared.Ended.{Ended}
-use Rattle.wire.proofs.HeldLaws.{said-settlement, said-request}
-use Rattle.intake.specs.Intake.{callOf}
-use Rattle.intake.specs.Found.{foundFrom}
-use Rattle.intake.specs.internal.Passing.{takenOf}
-use Rattle.intake.proofs.ReadingLaws.{message-only, end-only, refused-only}
-use Rattle.intake.proofs.FoundLaws.{bytesOf, Takes, whole, all, takes, taken-within, one-found, none-found}
+use Rattle.creek.specs.declared.Answer.{Answer}
+use Rattle.creek.specs.Calls.{Replica, badShop, freshRefusal, fresh}
 use Rattle.creek.specs.History.{idled}
-use Rattle.printed.specs.Printout.{after, afterAll, refusalIn, numberIn, lineOfMessage, lineFor, messageLines}
+use Rattle.creek.specs.Showing.{undosShown, executionsShown}
+use Rattle.replica.specs.State.{State}
+use Rattle.replica.specs.internal.Model.{model, Inv}
+use Rattle.replica.specs.Shown.{registersShown, committedShown}
+use Rattle.replica.proofs.ShowingLaws.{committed-are, requests-are, all-registers-are}
+use Rattle.due.specs.declared.DueSteps.{DueSteps}
+use Rattle.due.specs.Due.{RunDue}
+use Rattle.due.specs.internal.Parts.{ranTo}
+use Rattle.wire.specs.Layout.{kindNumber, leastMessage}
+use Rattle.wire.specs.Message.{BusMessage, request, settlement, kindOf, frontOf, contents, fieldsOf}
+use Rattle.wire.specs.Reader.{Outcome, message, end, refused, answered, kindAt, readAt}
+use Rattle.wire.proofs.ReaderLaws.{not-at-end}
+use Rattle.wire.proofs.RoundTrip.{taken-least, taken-inside, kind-told, number-told}
+use Rattle.intake.specs.declared.Receipt.{Receipt}
+use Rattle.intake.specs.Intake.{answerTo, received, Received}
+use Rattle.intake.specs.Found.{foundFrom}
+use Rattle.intake.proofs.FoundLaws.{bytesOf, one-found, none-found}
+use Rattle.printed.proofs.SizeLaws.{registers-count}
+use Rattle.printed.specs.Printout.{after, afterAll, refusalIn, undoneIn, numberIn, lineOfMessage, lineFor, messageLines}
 use Rattle.printed.specs.Printout.{shopBytes, mostMessages, mostInput, closing, printoutOf, printout}
-use Rattle.sheet.specs.Putting.{Stands, HeardOf, TakenIn, HeardAs, LinePut, AllPut}
+use Rattle.sheet.specs.Putting.{LinePut, AllPut, ClosingPut}
 
--- ---- a message is taken in
+-- ---- what a receipt tells
 
--- the state that a call led to
-abbrev pub stateAfter : {p : State} {c : Call} {r : Called} → Kept p c r → State
-stateAfter {r = r} kept = r .state
+message-by : (o : Outcome) (r : Receipt) → r .taken ≡ answered o .taken → (r .taken ≡ 0 → ⊥)
+    → (m : BusMessage) × (o ≡ message m (r .taken))
+unfolding answered
+message-by (message m n) r e took = (m, ap (message m) (sym e))
+message-by end r e took = absurd (took e)
+message-by (refused w) r e took = absurd (took e)
 
-module _ (p : State) (m : BusMessage) (c : Called) (kept : Kept p (callOf m) c) (ran : DueOutcome) (due : RunDue (c .state) ran) where
-  done : model (ran .state) ≡ idled (step (model p) (callOf m))
-  done = due .state ∙ ap idled (kept .state)
+refused-by : (p : Replica) (o : Outcome) (r : Receipt) → r .taken ≡ answered o .taken → r .answer ≡ answerTo p o → (o ≡ end → ⊥)
+    → ((m : BusMessage) (n : ℕ) → o ≡ message m n → leastMessage ≤ n) → r .taken ≡ 0 → o ≡ refused (r .answer .refusal)
+unfolding answered answerTo
+refused-by p (message m n) r e a more least untaken = absurd (omega (arith, least m n refl))
+refused-by p end r e a more least untaken = absurd (more refl)
+refused-by p (refused w) r e a more least untaken = ap refused (sym (ap (λ (x : Answer). x .refusal) a))
 
-  -- the undos that were counted are those done since the line before
-  pub taken-in : ran .state .counters .undos ≡ p .counters .undos + ran .undos → (h : Heard) → h .refusal ≡ c .answer .refusal
-      → h .undone ≡ ran .undos → TakenIn p m (ran .state) h
-  unfolding after refusalIn model
-  taken-in counted h refusal undone = record {
-    heard = λ n. record {
-      panel = record { state = done; invariant = due .invariant };
-      refusal = refusal ∙ ap (λ (a : Reply). a .refusal) (kept .answer);
-      undone = omega (arith, undone, counted, ap undosShown done);
-    };
-  }
+-- the panel after it
+abbrev pub stateAfter : {p : State} {o : Outcome} {r : Receipt} {q : State} → Received p o r q → State
+stateAfter {q = q} got = q
 
--- what cannot be read leaves the panel alone
-module _ (p : State) (r : Reading) (inv : Inv p) where
-  alone : Stands p (model p)
-  alone = record { state = refl; invariant = inv }
+-- the message that was received where bytes were taken
+pub message-there : {p q : State} {r : Receipt} (s : List ℕ) (at : ℕ) → Received p (readAt s at) r q → (r .taken ≡ 0 → ⊥)
+    → (m : BusMessage) × (readAt s at ≡ message m (r .taken))
+message-there {r = r} s at got took = message-by (readAt s at) r (got .taken) took
 
-  pub heard-end : r .answer ≡ End → (h : Heard) → h .refusal ≡ refusedBy.accepted → h .undone ≡ 0 → HeardAs p r p h
-  unfolding after refusalIn
-  heard-end f h refusal none = record {
-    heard = end-only r (λ o. HeardOf (model p) o p h) f (record { panel = alone; refusal = refusal; undone = omega (arith, none) });
-  }
+-- ---- a message's line
 
-  pub heard-refused : (w : ℕ) → r .answer ≡ Refused w → (h : Heard) → h .refusal ≡ w → h .undone ≡ 0 → HeardAs p r p h
-  unfolding after refusalIn
-  heard-refused w f h refusal none = record {
-    heard = refused-only r (λ o. HeardOf (model p) o p h) w f (record { panel = alone; refusal = refusal; undone = omega (arith, none) });
-  }
+number-in : (m : BusMessage) → numberIn m ≡ numberFrom (fieldsOf m)
+unfolding numberIn fieldsOf contents frontOf
+number-in (request x) = refl
+number-in (settlement n) = refl
 
-pub heard-message : (p : State) (r : Reading) (q : State) (h : Heard) → r .answer ≡ aMessage → TakenIn p (said (r .message)) q h
-    → HeardAs p r q h
-heard-message p r q h f t = record { heard = message-only r (λ o. HeardOf (model p) o q h) f (t .heard (r .taken)) }
-
--- ---- lines
-
-number-by : (m : Message) (x : Subject) → m .subject ≡ x → numberIn (said m) ≡ m .request .number
-unfolding numberIn
-number-by m aRequest e = rw (said-request m e)
-number-by m aSettlement e = rw (said-settlement m e)
-
-pub message-line : (place : ℕ) (m : Message) (kind refusal undone : ℕ) → kind ≡ kindNumber (kindOf (said m))
-    → let n = m .request .number in
-    lineOfMessage place (said m) refusal undone ≡ messageLine place kind (n .panel .0) (n .event .0) refusal undone
+-- the line of the message at a place is made of what stands there
+pub line-told : (s : List ℕ) (at : ℕ) (m : BusMessage) (n : ℕ) → readAt s at ≡ message m n
+    → (place kind refusal undone : ℕ) (number : Number) → kind ≡ kindAt s at → number ≡ numberFrom (decode settlementWidths s at)
+    → lineOfMessage place m refusal undone ≡ messageLine place kind (number .panel .0) (number .event .0) refusal undone
 unfolding lineOfMessage
-message-line place m kind refusal undone e =
-    let n = m .request .number in
-    let named = number-by m (m .subject) refl in
-    ap (λ (x : Number). messageLine place (kindNumber (kindOf (said m))) (x .panel .0) (x .event .0) refusal undone) named
-    ∙ ap (λ (k : ℕ). messageLine place k (n .panel .0) (n .event .0) refusal undone) (sym e)
+line-told s at m n read place kind refusal undone number k e =
+    let named : numberIn m ≡ number = number-in m ∙ number-told s at m n read ∙ sym e in
+    let numbered : kindNumber (kindOf m) ≡ kind = sym (kind-told s at m n read) ∙ sym k in
+    rw (named, numbered)
 
-module _ (place : ℕ) (r : Reading) (refusal undone : ℕ) (out : List ℕ) (at : ℕ) where
-  pub put-message-line : (out′ : List ℕ) (behind : ℕ) → r .answer ≡ aMessage
-      → Placed out at (lineOfMessage place (said (r .message)) refusal undone) out′ behind → behind ≤ at + mostMessageBytes
-      → LinePut place r refusal undone out at out′ behind
-  unfolding lineFor
-  put-message-line out′ behind f w few = record {
-    written = message-only r (λ o. Placed out at (lineFor place o refusal undone) out′ behind) f w;
-    few = few;
-  }
-
-  pub put-end-line : r .answer ≡ End → LinePut place r refusal undone out at out at
-  unfolding lineFor
-  put-end-line f = record {
-    written = end-only r (λ o. Placed out at (lineFor place o refusal undone) out at) f (nothing out at);
-    few = omega arith;
-  }
-
-  pub put-unread-line : (out′ : List ℕ) (behind : ℕ) (w : ℕ) → r .answer ≡ Refused w → w < 2 ^ 8 → place ≤ mostInput
-      → Placed out at (unreadLine place w) out′ behind → LinePut place r refusal undone out at out′ behind
-  unfolding lineFor
-  put-unread-line out′ behind w f small low v = record {
-    written = refused-only r (λ o. Placed out at (lineFor place o refusal undone) out′ behind) w f v;
-    few = omega (arith, v .place, unread-short place w (omega arith) small);
-  }
+-- the lines of a message and of what is found behind it
+lines-next : (place : ℕ) (r r₁ : Replica) (m : BusMessage) (n refusal undone : ℕ) (rest : List Outcome) → r₁ ≡ after r (message m n)
+    → refusal ≡ refusalIn r (message m n) → undone ≡ undoneIn r (message m n)
+    → messageLines place r (message m n ∷ rest) ≡ lineOfMessage place m refusal undone ++ messageLines (place + 1) r₁ rest
+unfolding messageLines lineFor
+lines-next place r r₁ m n refusal undone rest e f g = rw (add-one, e, f, g)
 
 -- ---- the loop
 
--- what was put and heard up to a place, where what is left to do from there is the whole job
-pub record Putting (r : Replica) (s out : List ℕ) (from : ℕ) (out₁ : List ℕ) (p : State) (at behind place : ℕ) : Type 0 where
+undos-are : (p : State) → p .counters .undos ≡ undosShown (model p)
+unfolding model
+undos-are p = refl
+
+executions-are : (p : State) → p .counters .executions ≡ executionsShown (model p)
+unfolding model
+executions-are p = refl
+
+-- what was put and received up to a place, where what is left to do from there is the whole job
+pub record Putting (p₀ : State) (s out : List ℕ) (from : ℕ) (p : State) (out₁ : List ℕ) (at behind place : ℕ) : Type 0 where
   pub inside : at ≤ length s
   pub invariant : Inv p
-  pub state : afterAll (model p) (foundFrom s at) ≡ afterAll r (foundFrom s shopBytes)
-  pub lines : Left out from (messageLines 1 r (foundFrom s shopBytes)) out₁ behind (messageLines place (model p) (foundFrom s at))
+  pub state : afterAll (model p) (foundFrom s at) ≡ afterAll (model p₀) (foundFrom s shopBytes)
+  pub lines : Left out from (messageLines 1 (model p₀) (foundFrom s shopBytes)) out₁ behind (messageLines place (model p) (foundFrom s at))
   pub few : behind + mostMessageBytes ≤ from + place * mostMessageBytes
-  -- each message but the last took the bytes of the shortest
-  pub paced : leastMessage * place + shopBytes ≤ at + leastMessage + leastMessage
-  pub whole-so-far : at < length s → leastMessage * place + shopBytes ≤ at + leastMessage
+  -- each message took the bytes of the shortest
+  pub paced : leastMessage * place + shopBytes ≤ at + leastMessage
 
-pub put-start : (s out : List ℕ) (from : ℕ) (p : State) → Inv p → shopBytes ≤ length s → Putting (model p) s out from out p shopBytes from 1
+-- the panel there
+abbrev pub panelIn : {p₀ : State} {s out : List ℕ} {from : ℕ} {p : State} {out₁ : List ℕ} {at behind place : ℕ}
+    → Putting p₀ s out from p out₁ at behind place → State
+panelIn {p = p} put = p
+
+pub put-start : (s out : List ℕ) (from : ℕ) (p : State) → Inv p → shopBytes ≤ length s → Putting p s out from p out shopBytes from 1
 put-start s out from p inv h = record {
   inside = h;
   invariant = inv;
@@ -151,65 +125,105 @@ put-start s out from p inv h = record {
   lines = left-start out from (messageLines 1 (model p) (foundFrom s shopBytes));
   few = omega arith;
   paced = omega arith;
-  whole-so-far = λ l. omega arith;
 }
 
-module _ (r : Replica) (s out : List ℕ) (from : ℕ) (out₁ : List ℕ) (p : State) (at behind place : ℕ) (below : at < length s)
-    (put : Putting r s out from out₁ p at behind place) where
-  pub line-room : from + mostMessages * mostMessageBytes ≤ length out → length s ≤ mostInput
-      → (behind + mostMessageBytes ≤ length out₁) × (place ≤ mostInput)
-  line-room room low =
-      let pace = put .whole-so-far below in
-      (omega (arith, put .few, pace, put .lines .size), omega (arith, pace))
+module _ {p₀ : State} {s out : List ℕ} {from : ℕ} {p : State} {out₁ : List ℕ} {at behind place : ℕ}
+    (put : Putting p₀ s out from p out₁ at behind place) where
+  pub put-end : length s ≤ at → length s ≤ mostInput → AllPut p₀ s out from p out₁ behind
+  unfolding afterAll messageLines
+  put-end past low = record {
+    state = rw (none-found s at past) at (put .state);
+    invariant = put .invariant;
+    lines = left-end (rw (none-found s at past) at (put .lines));
+    few = omega (arith, put .few, put .paced, put .inside);
+  }
 
-  module _ (x : Reading) (ex : x ≡ answered (readAt s at)) (q : State) (h : Heard) (heard : HeardAs p x q h)
-      (n : ℕ) (en : n ≡ takenOf x (length s - at)) where
-    st : HeardOf (model p) (readAt s at) q h
-    st = heard .heard (readAt s at) ex
+  module _ (below : at < length s) where
+    pub line-room : from + mostMessages * mostMessageBytes ≤ length out → length s ≤ mostInput
+        → (behind + mostMessageBytes ≤ length out₁) × (place ≤ mostInput)
+    line-room room low = (omega (arith, put .few, put .paced, put .lines .size), omega (arith, put .paced))
 
-    n-is : n ≡ bytesOf (readAt s at) (length s - at)
-    n-is = en ∙ ap (λ (y : Reading). takenOf y (length s - at)) ex
+    module _ {r : Receipt} {q : State} (got : Received p (readAt s at) r q) where
+      -- what cannot be read is the last that is found
+      pub put-last : {out₂ : List ℕ} {behind₂ : ℕ} → r .taken ≡ 0 → length s ≤ mostInput → r .answer .refusal < 2 ^ 8
+          → Placed out₁ behind (unreadLine place (r .answer .refusal)) out₂ behind₂ → AllPut p₀ s out from q out₂ behind₂
+      unfolding afterAll after messageLines lineFor received
+      put-last untaken low small w =
+          let f = r .answer .refusal in
+          let is : readAt s at ≡ refused f =
+          refused-by (model p) (readAt s at) r (got .taken) (got .answer) (not-at-end s at below) (taken-least s at) untaken in
+          let last : foundFrom s at ≡ refused f ∷ [] =
+          one-found s at below ∙ rw is (ap (λ (l : List Outcome). refused f ∷ l) (none-found s (at + (length s - at)) (omega arith))) in
+          let stays : model q ≡ model p = got .state ∙ rw is in
+          record {
+            state = stays ∙ rw last at (put .state);
+            invariant = got .invariant;
+            lines = left-end (left-step [] w (rw last at (put .lines)));
+            few = omega (arith, put .few, put .paced, w .place, unread-short place f (omega (arith, put .paced)) small);
+          }
 
-    pub n-within : (1 ≤ n) × (n ≤ length s - at)
-    n-within = rw n-is (taken-within (length s - at) _ (takes s at below) (omega arith))
+      module _ (took : r .taken ≡ 0 → ⊥) where
+        -- at least the shortest message lies within the bytes, and what was taken does
+        pub within : (at + leastMessage ≤ length s) × (leastMessage ≤ r .taken) × (at + r .taken ≤ length s)
+        within =
+            let there = message-there s at got took in
+            let least = taken-least s at (there .0) (r .taken) (there .1) in
+            let inside = taken-inside s at (there .0) (r .taken) (there .1) in
+            (omega arith, least, inside)
 
-    now-next : Left out from (messageLines 1 r (foundFrom s shopBytes)) out₁ behind
-        (lineFor place (readAt s at) (h .refusal) (h .undone) ++ messageLines (place + 1) (model q) (foundFrom s (at + n)))
-    unfolding messageLines
-    now-next = rw (add-one, st .panel .state, st .refusal, st .undone, n-is) (rw (one-found s at below) at (put .lines))
+        module _ {d : DueSteps} {q₁ : State} (ran : RunDue q (ranTo d q₁))
+            (counted : q₁ .counters .undos ≡ p .counters .undos + d .undos) where
+          pub put-step : {out₂ : List ℕ} {behind₂ : ℕ} → LinePut s at place (r .answer .refusal) (d .undos) out₁ behind out₂ behind₂
+              → Putting p₀ s out from q₁ out₂ (at + r .taken) behind₂ (place + 1)
+          unfolding afterAll after refusalIn answerTo received
+          put-step {out₂} {behind₂} w =
+              let there = message-there s at got took in
+              let m = there .0 in
+              let n = r .taken in
+              let is = there .1 in
+              let rest = foundFrom s (at + n) in
+              let one : foundFrom s at ≡ message m n ∷ rest =
+              one-found s at below ∙ ap (λ (o : Outcome). o ∷ foundFrom s (at + bytesOf o (length s - at))) is in
+              let stands : model q₁ ≡ after (model p) (message m n) =
+              ran .state ∙ ap idled (got .state ∙ ap (received (model p)) is) in
+              let refusal : r .answer .refusal ≡ refusalIn (model p) (message m n) =
+              ap (λ (a : Answer). a .refusal) (got .answer ∙ ap (answerTo (model p)) is) in
+              let undone : d .undos ≡ undoneIn (model p) (message m n) =
+              omega (arith, counted, undos-are p, undos-are q₁, ap undosShown stands) in
+              let lines =
+              ap (messageLines place (model p)) one ∙ lines-next place (model p) (model q₁) m n _ _ rest stands refusal undone in
+              let whole = messageLines 1 (model p₀) (foundFrom s shopBytes) in
+              let size = within in
+              record {
+                inside = size .2;
+                invariant = ran .invariant;
+                state = ap (λ (x : Replica). afterAll x rest) stands ∙ sym (ap (afterAll (model p)) one) ∙ put .state;
+                lines = left-step _ (w .written m n is) (subst (Left out from whole out₁ behind) lines (put .lines));
+                few = omega (arith, put .few, w .few);
+                paced = omega (arith, put .paced, size .1);
+              }
 
-    paced-on : Takes (length s - at) n → leastMessage * place + shopBytes ≤ at + leastMessage
-        → (leastMessage * (place + 1) + shopBytes ≤ at + n + leastMessage + leastMessage)
-        × (at + n < length s → leastMessage * (place + 1) + shopBytes ≤ at + n + leastMessage)
-    paced-on (whole l m) p = (omega arith, λ q. omega arith)
-    paced-on (all e) p = (omega arith, λ q. absurd (omega arith))
+-- ---- the closing lines
 
-    pub put-step : (out₂ : List ℕ) (behind₂ : ℕ) → LinePut place x (h .refusal) (h .undone) out₁ behind out₂ behind₂
-        → Putting r s out from out₂ q (at + n) behind₂ (place + 1)
-    unfolding afterAll
-    put-step out₂ behind₂ w =
-        let v = n-within in
-        let pace = paced-on (rw n-is (takes s at below)) (put .whole-so-far below) in
-        record {
-          inside = omega (arith, v .1);
-          invariant = st .panel .invariant;
-          state = rw (st .panel .state, n-is) (rw (one-found s at below) at (put .state));
-          lines = left-step (messageLines (place + 1) (model q) (foundFrom s (at + n))) (w .written (readAt s at) ex) now-next;
-          few = omega (arith, put .few, w .few);
-          paced = pace .0;
-          whole-so-far = pace .1;
-        }
+closing-by : (r : Replica) (settled unsettled undone carried : ℕ) (values : List ℕ) → settled ≡ committedShown r
+    → unsettled ≡ length (r .book .plan .tentative) → undone ≡ undosShown r → carried ≡ executionsShown r
+    → values ≡ registersShown r → closing r ≡ totalsLine settled unsettled undone carried ++ registerLines values
+unfolding closing
+closing-by r settled unsettled undone carried values e f g h k = rw (e, f, g, h, k)
 
-pub put-end : (r : Replica) (s out : List ℕ) (from : ℕ) (out₁ : List ℕ) (p : State) (at behind place : ℕ) → length s ≤ at
-    → length s ≤ mostInput → Putting r s out from out₁ p at behind place → (e : Ended) → e .behind ≡ behind → AllPut r s out from out₁ p e
-unfolding afterAll messageLines
-put-end r s out from out₁ p at behind place h low put e is =
-    let state : model p ≡ afterAll r (foundFrom s shopBytes) = rw (none-found s at h) at (put .state) in
-    record {
-      panel = record { state = state; invariant = put .invariant };
-      lines = rw is (left-end (rw (none-found s at h) at (put .lines)));
-      few = omega (arith, is, put .few, put .paced, put .inside);
-    }
+-- there are all registers
+pub registers-all : (p : State) → Inv p → length (p .registers) ≡ suc lastRegister
+registers-all p inv = ap length (all-registers-are p inv) ∙ registers-count (model p)
+
+pub closing-is : (p : State) → Inv p
+    → closing (model p)
+    ≡ totalsLine (p .committed) (p .ordered - p .committed) (p .counters .undos) (p .counters .executions) ++ registerLines (p .registers)
+closing-is p inv =
+    let plan = model p .book .plan in
+    let settled = committed-are p inv in
+    let unsettled : p .ordered - p .committed ≡ length (plan .tentative) =
+    omega (arith, settled, requests-are p inv, length-append (plan .committed) (plan .tentative)) in
+    closing-by (model p) _ _ _ _ _ settled unsettled (undos-are p) (executions-are p) (all-registers-are p inv)
 
 -- ---- the whole printout
 
@@ -217,28 +231,17 @@ pub printout-short : (s : List ℕ) → length s < shopBytes → printout s ≡ 
 unfolding printout
 printout-short s h = rw (lt-ltb (length s) shopBytes h)
 
-pub printout-bad : (s : List ℕ) → shopBytes ≤ length s → badShop (getD s 0 0) (getD s 1 0) ≡ true → printout s ≡ refusedLine refusedBy.badShop
+pub printout-bad : (s : List ℕ) → shopBytes ≤ length s → badShop (getD s 0 0) (getD s 1 0) ≡ true
+    → printout s ≡ refusedLine refusedBy.badShop
 unfolding printout
 printout-bad s h e = rw (le-ltb (length s) shopBytes h, e)
 
-pub printout-good : (s : List ℕ) → shopBytes ≤ length s → badShop (getD s 0 0) (getD s 1 0) ≡ false
+printout-good : (s : List ℕ) → shopBytes ≤ length s → badShop (getD s 0 0) (getD s 1 0) ≡ false
     → printout s ≡ boardLine (getD s 0 0) (getD s 1 0)
     ++ (messageLines 1 (fresh (getD s 0 0) (getD s 1 0)) (foundFrom s shopBytes)
     ++ closing (afterAll (fresh (getD s 0 0) (getD s 1 0)) (foundFrom s shopBytes)))
 unfolding printout printoutOf
 printout-good s h e = rw (le-ltb (length s) shopBytes h, e)
-
-pub closing-is : (r : Replica) (settled unsettled undone carried : ℕ) (values : List ℕ) → settled ≡ committedShown r
-    → unsettled ≡ length (r .book .plan .tentative) → undone ≡ undosShown r → carried ≡ executionsShown r
-    → values ≡ registersShown r → closing r ≡ totalsLine settled unsettled undone carried ++ registerLines values
-unfolding closing
-closing-is r settled unsettled undone carried values e f g h k = rw (e, f, g, h, k)
-
--- ---- the shop
-
--- the state that stands for a replica
-abbrev pub standing : {q : State} {r : Replica} → Stands q r → State
-standing {q = q} stands = q
 
 fresh-by : (panels own w : ℕ) (v : Bool) → badShop panels own ≡ v → w ≡ freshRefusal panels own → (w ≡ refusedBy.accepted → ⊥) → v ≡ true
 unfolding freshRefusal
@@ -259,16 +262,14 @@ pub fresh-good : (panels own w : ℕ) → w ≡ freshRefusal panels own → w �
 fresh-good panels own w f h = opened-by panels own w (badShop panels own) refl f h
 
 -- the three parts of a good shop's printout, one behind the other
-pub printed : (s : List ℕ) → shopBytes ≤ length s → badShop (getD s 0 0) (getD s 1 0) ≡ false
-    → (r : Replica) → r ≡ fresh (getD s 0 0) (getD s 1 0)
-    → (out out₁ out₂ out₃ : List ℕ) (at₁ at₃ : ℕ) (q : State) (e : Ended)
-    → Placed out 0 (boardLine (getD s 0 0) (getD s 1 0)) out₁ at₁ → AllPut r s out₁ at₁ out₂ q e
-    → Placed out₂ (e .behind) (closing (model q)) out₃ at₃ → Placed out 0 (printout s) out₃ at₃
-printed s h good r er out out₁ out₂ out₃ at₁ at₃ q e first put last =
+pub printed : {s out out₁ out₂ out₃ : List ℕ} {at₁ at₂ at₃ : ℕ} {p q : State} → shopBytes ≤ length s
+    → badShop (getD s 0 0) (getD s 1 0) ≡ false → model p ≡ fresh (getD s 0 0) (getD s 1 0)
+    → Placed out 0 (boardLine (getD s 0 0) (getD s 1 0)) out₁ at₁ → AllPut p s out₁ at₁ q out₂ at₂
+    → ClosingPut (q .committed) (q .ordered) (q .counters .undos) (q .counters .executions) (q .registers) out₂ at₂ out₃ at₃
+    → Placed out 0 (printout s) out₃ at₃
+printed {s} {out} {out₁} {out₂} {out₃} {at₁} {at₂} {at₃} {p} {q} h good opened first put last =
     let found = foundFrom s shopBytes in
-    let lines : Placed out₁ at₁ (messageLines 1 (fresh (getD s 0 0) (getD s 1 0)) found) out₂ (e .behind) =
-    subst (λ (x : Replica). Placed out₁ at₁ (messageLines 1 x found) out₂ (e .behind)) er (put .lines) in
-    let end-is : model q ≡ afterAll (fresh (getD s 0 0) (getD s 1 0)) found =
-    put .panel .state ∙ ap (λ (x : Replica). afterAll x found) er in
-    let closed = subst (λ (x : Replica). Placed out₂ (e .behind) (closing x) out₃ at₃) end-is last in
+    let lines = subst (λ (x : Replica). Placed out₁ at₁ (messageLines 1 x found) out₂ at₂) opened (put .lines) in
+    let closes = sym (closing-is q (put .invariant)) ∙ ap closing (put .state ∙ ap (λ (x : Replica). afterAll x found) opened) in
+    let closed = subst (λ (text : List ℕ). Placed out₂ at₂ text out₃ at₃) closes (last .written) in
     rw (printout-good s h good) (then first (then lines closed))

@@ -1,30 +1,24 @@
 // The printout of document 01, which is one definition of the input's bytes, `printout` of `printed`, put into lent bytes by `print`.
 //
-// The panel's memory is the local arrays of `put_printout`, which are lent to all that is called from there; its core and its counters
-// are handed on by value.
-use counters::Counters;
+// The panel's memory is the locals of `put_printout`, all of which are lent to `put_messages`, whose contract speaks of them as one memory.
 use numbers::PanelNo;
-use replica::Core;
+use parts::integers;
+use parts::places;
+use parts::reading;
 use report::sizes::MOST_BOARD_BYTES;
 use report::sizes::MOST_MESSAGE_BYTES;
 use report::sizes::MOST_REGISTERS_BYTES;
 use report::sizes::MOST_TOTALS_BYTES;
 use request::refusal;
-use wire::Message;
-use wire::ReadAnswer;
-use wire::Reading;
 use wire::layout::LEAST_MESSAGE;
-ghost use mathlib.Core.Path.{_≡_};
 ghost use Prim.Native.Nat.{_+_, _*_, _≤_};
 ghost use lib.ListN.{length};
 ghost use Rattle.report.specs.Sizes.{mostMessageBytes, mostTotalsBytes, mostRegistersBytes};
-ghost use Rattle.replica.specs.State.{packed};
-ghost use Rattle.replica.specs.internal.Model.{model, Inv};
-ghost use Rattle.wire.specs.Message.{said};
-ghost use Rattle.intake.specs.internal.Passing.{takenOf};
+ghost use Rattle.replica.specs.internal.Model.{Inv};
+ghost use Rattle.replica.specs.internal.Whole.{wholeNow, wholeEntry, wholeExit};
+ghost use Rattle.wire.specs.Layout.{leastMessage};
 ghost use Rattle.printed.specs.Printout.{shopBytes, mostMessages, mostInput, mostPrinted, Printed};
-ghost use Rattle.sheet.specs.Putting.{TakenIn, HeardAs, MessageLinePut, LinePut, AllPut};
-ghost use Rattle.sheet.specs.Putting.{ClosingAsks, ClosingPut, Opens, PrintoutPut};
+ghost use Rattle.sheet.specs.Putting.{LinePut, AllPut, ClosingAsks, ClosingPut, PrintoutPut};
 
 // At most so many bytes of the input are read.
 pub const MOST_INPUT: usize = 65536;
@@ -41,181 +35,31 @@ pub const MOST_PRINTED: usize = MOST_BOARD_BYTES
 // P and the own panel, one byte each.
 const SHOP_BYTES: usize = 2;
 
-// The panel's core and counters after what was found, its refusal, and the undos done since the line before.
-struct Heard {
-    core: Core,
-    counters: Counters,
-    refusal: u8,
-    undone: u32,
-}
-
-// The panel's core and counters after the last message, and the place behind the messages' lines.
-struct Ended {
-    core: Core,
-    counters: Counters,
-    behind: usize,
-}
-
-// The bytes that are passed over: those of a message, or all that are left.
-fn bytes_passed(r: Reading, left: usize) -> usize
-    ensures { λ n. ⌜ n ≡ takenOf r left ⌝ }
-{
-    let answer = r.answer;
-    match answer {
-        ReadAnswer::Message => r.taken,
-        ReadAnswer::End => left,
-        ReadAnswer::Refused(_) => left,
-    }
-}
-
-// A message is heard or settled, then due steps are called until idle, and counted.
-fn take_in(
-    core: Core,
-    counters: Counters,
-    held: &mut [u64; 8],
-    known: &mut [u64; 8],
-    awaiting: &mut [u64; 8],
-    clocks: &mut [u32; 512],
-    operations: &mut [u64; 512],
-    contexts: &mut [u64; 4096],
-    order: &mut [u16; 512],
-    stack: &mut [u16; 512],
-    registers: &mut [u32; 64],
-    saved: &mut [u64; 512],
-    responses: &mut [u32; 512],
-    settled: &mut [u64; 8],
-    m: Message,
-) -> Heard
-    requires { ⌜ Inv (packed core counters (now held) (now known) (now awaiting) (now clocks) (now operations) (now contexts)
-        (now order) (now stack) (now registers) (now saved) (now responses) (now settled)) ⌝ }
-    ensures { λ h. ⌜ TakenIn (packed core counters (now (held .entry)) (now (known .entry)) (now (awaiting .entry))
-        (now (clocks .entry)) (now (operations .entry)) (now (contexts .entry)) (now (order .entry)) (now (stack .entry))
-        (now (registers .entry)) (now (saved .entry)) (now (responses .entry)) (now (settled .entry))) (said m)
-        (packed (h .core) (h .counters) (now (held .exit)) (now (known .exit)) (now (awaiting .exit)) (now (clocks .exit))
-        (now (operations .exit)) (now (contexts .exit)) (now (order .exit)) (now (stack .exit)) (now (registers .exit))
-        (now (saved .exit)) (now (responses .exit)) (now (settled .exit))) h ⌝ }
-{
-    let c = intake::take_with_core(
-        core,
-        held,
-        known,
-        awaiting,
-        clocks,
-        operations,
-        contexts,
-        order,
-        stack,
-        responses,
-        settled,
-        m,
-    );
-    let answer = c.answer;
-    let ran = due::run_due_with_core(
-        c.core,
-        awaiting,
-        operations,
-        order,
-        stack,
-        registers,
-        saved,
-        responses,
-    );
-    let after = ran.core;
-    let undone = ran.due.undos;
-    let undos = counters::undos_counted(counters, undone);
-    let steps = counters::executions_counted(undos, ran.due.executions);
-    Heard {
-        core: after,
-        counters: steps,
-        refusal: answer.refusal,
-        undone,
-    }
-}
-
-// What was found is heard; what cannot be read leaves the panel alone.
-fn hear(
-    core: Core,
-    counters: Counters,
-    held: &mut [u64; 8],
-    known: &mut [u64; 8],
-    awaiting: &mut [u64; 8],
-    clocks: &mut [u32; 512],
-    operations: &mut [u64; 512],
-    contexts: &mut [u64; 4096],
-    order: &mut [u16; 512],
-    stack: &mut [u16; 512],
-    registers: &mut [u32; 64],
-    saved: &mut [u64; 512],
-    responses: &mut [u32; 512],
-    settled: &mut [u64; 8],
-    r: Reading,
-) -> Heard
-    requires { ⌜ Inv (packed core counters (now held) (now known) (now awaiting) (now clocks) (now operations) (now contexts)
-        (now order) (now stack) (now registers) (now saved) (now responses) (now settled)) ⌝ }
-    ensures { λ h. ⌜ HeardAs (packed core counters (now (held .entry)) (now (known .entry)) (now (awaiting .entry))
-        (now (clocks .entry)) (now (operations .entry)) (now (contexts .entry)) (now (order .entry)) (now (stack .entry))
-        (now (registers .entry)) (now (saved .entry)) (now (responses .entry)) (now (settled .entry))) r
-        (packed (h .core) (h .counters) (now (held .exit)) (now (known .exit)) (now (awaiting .exit)) (now (clocks .exit))
-        (now (operations .exit)) (now (contexts .exit)) (now (order .exit)) (now (stack .exit)) (now (registers .exit))
-        (now (saved .exit)) (now (responses .exit)) (now (settled .exit))) h ⌝ }
-{
-    let answer = r.answer;
-    match answer {
-        ReadAnswer::Message => take_in(
-            core,
-            counters,
-            held,
-            known,
-            awaiting,
-            clocks,
-            operations,
-            contexts,
-            order,
-            stack,
-            registers,
-            saved,
-            responses,
-            settled,
-            r.message,
-        ),
-        ReadAnswer::End => Heard {
-            core,
-            counters,
-            refusal: refusal::ACCEPTED,
-            undone: 0,
-        },
-        ReadAnswer::Refused(refusal) => Heard {
-            core,
-            counters,
-            refusal,
-            undone: 0,
-        },
-    }
-}
-
-// Puts the line of a message.
-fn put_message_line(
+// Puts the line of the message that stands at the place `from` of the input.
+fn put_line(
     out: &mut [u8],
     at: usize,
     place: u64,
-    m: Message,
+    input: &[u8],
+    from: usize,
     refusal: u8,
     undone: u32,
 ) -> usize
     requires { ⌜ at + mostMessageBytes ≤ length (now out) ⌝ }
     requires { ⌜ place ≤ mostInput ⌝ }
-    ensures { λ r. ⌜ MessageLinePut place (said m) refusal undone (now (out .entry)) at (now (out .exit)) r ⌝ }
+    requires { ⌜ from + leastMessage ≤ length (now input) ⌝ }
+    ensures { λ r. ⌜ LinePut (now (input .entry)) from place refusal undone (now (out .entry)) at (now (out .exit)) r ⌝ }
 {
-    let kind = wire::kind_number(wire::kind_of(m));
-    let x = m.request;
-    let number = x.number;
+    let kind_at = from + places::KIND_AT;
+    let kind = integers::integer_at(input, kind_at, places::KIND_WIDTH);
+    let number = reading::number_at(input, from);
     let panel = number.panel.0;
     let event = number.event.0;
     report::put_message(
         out,
         at,
         place,
-        kind as u64,
+        kind,
         panel as u64,
         event as u64,
         refusal as u64,
@@ -223,27 +67,23 @@ fn put_message_line(
     )
 }
 
-// Puts the line of what was found.
-fn put_line(out: &mut [u8], at: usize, place: u64, r: Reading, refusal: u8, undone: u32) -> usize
-    requires { ⌜ at + mostMessageBytes ≤ length (now out) ⌝ }
-    requires { ⌜ place ≤ mostInput ⌝ }
-    ensures { λ behind. ⌜ LinePut place r refusal undone (now (out .entry)) at (now (out .exit)) behind ⌝ }
-{
-    let answer = r.answer;
-    match answer {
-        ReadAnswer::Message => put_message_line(out, at, place, r.message, refusal, undone),
-        ReadAnswer::End => at,
-        ReadAnswer::Refused(unread) => report::put_unread(out, at, place, unread as u64),
-    }
-}
-
-// Hears all that is found behind the shop's bytes and puts its lines.
+// Receives what is found behind the shop's bytes, message by message, calls due steps until the panel is idle, and puts each line; what
+// cannot be read is the last.
 fn put_messages(
     out: &mut [u8],
     from: usize,
     input: &[u8],
-    core: Core,
-    counters: Counters,
+    panels: u8,
+    own: PanelNo,
+    committed: &mut usize,
+    ordered: &mut usize,
+    executed: &mut usize,
+    stacked: &mut usize,
+    commits: &mut u32,
+    clock: &mut u32,
+    events: &mut u8,
+    undos: &mut u32,
+    executions: &mut u32,
     held: &mut [u64; 8],
     known: &mut [u64; 8],
     awaiting: &mut [u64; 8],
@@ -256,31 +96,34 @@ fn put_messages(
     saved: &mut [u64; 512],
     responses: &mut [u32; 512],
     settled: &mut [u64; 8],
-) -> Ended
-    requires { ⌜ Inv (packed core counters (now held) (now known) (now awaiting) (now clocks) (now operations) (now contexts)
-        (now order) (now stack) (now registers) (now saved) (now responses) (now settled)) ⌝ }
+) -> usize
+    requires { ⌜ Inv
+        (wholeNow panels own committed ordered executed stacked commits clock events undos executions held known awaiting clocks
+        operations contexts order stack registers saved responses settled) ⌝ }
     requires { ⌜ shopBytes ≤ length (now input) ⌝ }
     requires { ⌜ length (now input) ≤ mostInput ⌝ }
     requires { ⌜ from + mostMessages * mostMessageBytes ≤ length (now out) ⌝ }
-    ensures { λ e. ⌜ AllPut (model (packed core counters (now (held .entry)) (now (known .entry)) (now (awaiting .entry))
-        (now (clocks .entry)) (now (operations .entry)) (now (contexts .entry)) (now (order .entry)) (now (stack .entry))
-        (now (registers .entry)) (now (saved .entry)) (now (responses .entry)) (now (settled .entry)))) (now (input .entry))
-        (now (out .entry)) from
-        (now (out .exit))
-        (packed (e .core) (e .counters) (now (held .exit)) (now (known .exit)) (now (awaiting .exit)) (now (clocks .exit))
-        (now (operations .exit)) (now (contexts .exit)) (now (order .exit)) (now (stack .exit)) (now (registers .exit))
-        (now (saved .exit)) (now (responses .exit)) (now (settled .exit))) e ⌝ }
+    ensures { λ r. ⌜ AllPut
+        (wholeEntry panels own committed ordered executed stacked commits clock events undos executions held known awaiting clocks
+        operations contexts order stack registers saved responses settled)
+        (now (input .entry)) (now (out .entry)) from
+        (wholeExit panels own committed ordered executed stacked commits clock events undos executions held known awaiting clocks
+        operations contexts order stack registers saved responses settled)
+        (now (out .exit)) r ⌝ }
 {
-    let mut after = core;
-    let mut counted = counters;
     let mut at = SHOP_BYTES;
     let mut behind = from;
     let mut place: u64 = 1;
     while at < input.len() {
-        let r = wire::read(input, at);
-        let h = hear(
-            after,
-            counted,
+        let receipt = intake::receive(
+            input,
+            at,
+            panels,
+            own,
+            committed,
+            ordered,
+            executed,
+            commits,
             held,
             known,
             awaiting,
@@ -289,164 +132,63 @@ fn put_messages(
             contexts,
             order,
             stack,
+            responses,
+            settled,
+        );
+        let refusal = receipt.answer.refusal;
+        let taken = receipt.taken;
+        if taken == 0 {
+            return report::put_unread(out, behind, place, refusal as u64);
+        }
+        let steps = due::run_due(
+            *committed,
+            *ordered,
+            executed,
+            stacked,
+            awaiting,
+            operations,
+            order,
+            stack,
             registers,
             saved,
             responses,
-            settled,
-            r,
         );
-        after = h.core;
-        counted = h.counters;
-        behind = put_line(out, behind, place, r, h.refusal, h.undone);
-        let bytes = bytes_passed(r, input.len() - at);
-        at += bytes;
+        let undone = steps.undos;
+        let undos_done = *undos + undone;
+        let executions_done = *executions + steps.executions;
+        *undos = undos_done;
+        *executions = executions_done;
+        behind = put_line(out, behind, place, input, at, refusal, undone);
+        at += taken;
         place += 1;
     }
-    Ended {
-        core: after,
-        counters: counted,
-        behind,
-    }
+    behind
 }
 
 // Puts the list lengths, the step totals and the registers.
 fn put_closing(
     out: &mut [u8],
     at: usize,
-    core: Core,
-    counters: Counters,
+    committed: usize,
+    ordered: usize,
+    undos: u32,
+    executions: u32,
     registers: &[u32],
 ) -> usize
-    requires { ⌜ ClosingAsks core counters (now registers) ⌝ }
+    requires { ⌜ ClosingAsks committed ordered (now registers) ⌝ }
     requires { ⌜ at + mostTotalsBytes + mostRegistersBytes ≤ length (now out) ⌝ }
-    ensures { λ r. ⌜ ClosingPut core counters (now (registers .entry)) (now (out .entry)) at (now (out .exit)) r ⌝ }
+    ensures { λ r. ⌜ ClosingPut committed ordered undos executions (now (registers .entry)) (now (out .entry)) at (now (out .exit)) r ⌝ }
 {
-    let settled = replica::committed(core.committed);
-    let unsettled = replica::requests(core.ordered) - settled;
-    let undone = replica::undos(counters);
-    let carried = replica::executions(counters);
+    let tentative = ordered - committed;
     let registers_at = report::put_totals(
         out,
         at,
-        settled as u64,
-        unsettled as u64,
-        undone as u64,
-        carried as u64,
+        committed as u64,
+        tentative as u64,
+        undos as u64,
+        executions as u64,
     );
     report::put_registers(out, registers_at, registers)
-}
-
-// Puts the printout of a good shop, whose panel is that of its first moment.
-fn put_opened(
-    out: &mut [u8],
-    input: &[u8],
-    core: Core,
-    counters: Counters,
-    held: &mut [u64; 8],
-    known: &mut [u64; 8],
-    awaiting: &mut [u64; 8],
-    clocks: &mut [u32; 512],
-    operations: &mut [u64; 512],
-    contexts: &mut [u64; 4096],
-    order: &mut [u16; 512],
-    stack: &mut [u16; 512],
-    registers: &mut [u32; 64],
-    saved: &mut [u64; 512],
-    responses: &mut [u32; 512],
-    settled: &mut [u64; 8],
-) -> usize
-    requires { ⌜ Opens (now input) (packed core counters (now held) (now known) (now awaiting) (now clocks) (now operations)
-        (now contexts) (now order) (now stack) (now registers) (now saved) (now responses) (now settled)) ⌝ }
-    requires { ⌜ length (now input) ≤ mostInput ⌝ }
-    requires { ⌜ mostPrinted ≤ length (now out) ⌝ }
-    ensures { λ r. ⌜ PrintoutPut (now (input .entry)) (now (out .entry)) (now (out .exit)) r ⌝ }
-{
-    let panels = input[0];
-    let own = input[1];
-    let messages_at = report::put_board(out, 0, panels as u64, own as u64);
-    let e = put_messages(
-        out,
-        messages_at,
-        input,
-        core,
-        counters,
-        held,
-        known,
-        awaiting,
-        clocks,
-        operations,
-        contexts,
-        order,
-        stack,
-        registers,
-        saved,
-        responses,
-        settled,
-    );
-    put_closing(out, e.behind, e.core, e.counters, registers)
-}
-
-// Makes the lent arrays those of the input's shop and puts its printout.
-fn put_shop(
-    out: &mut [u8],
-    input: &[u8],
-    held: &mut [u64; 8],
-    known: &mut [u64; 8],
-    awaiting: &mut [u64; 8],
-    clocks: &mut [u32; 512],
-    operations: &mut [u64; 512],
-    contexts: &mut [u64; 4096],
-    order: &mut [u16; 512],
-    stack: &mut [u16; 512],
-    registers: &mut [u32; 64],
-    saved: &mut [u64; 512],
-    responses: &mut [u32; 512],
-    settled: &mut [u64; 8],
-) -> usize
-    requires { ⌜ shopBytes ≤ length (now input) ⌝ }
-    requires { ⌜ length (now input) ≤ mostInput ⌝ }
-    requires { ⌜ mostPrinted ≤ length (now out) ⌝ }
-    ensures { λ r. ⌜ PrintoutPut (now (input .entry)) (now (out .entry)) (now (out .exit)) r ⌝ }
-{
-    let panels = input[0];
-    let own = input[1];
-    let opened = replica::fresh_with_core(
-        held,
-        known,
-        awaiting,
-        clocks,
-        operations,
-        contexts,
-        order,
-        stack,
-        registers,
-        saved,
-        responses,
-        settled,
-        panels,
-        PanelNo(own),
-    );
-    if opened.refusal != refusal::ACCEPTED {
-        return report::put_refused(out, 0, refusal::BAD_SHOP as u64);
-    }
-    put_opened(
-        out,
-        input,
-        opened.core,
-        opened.counters,
-        held,
-        known,
-        awaiting,
-        clocks,
-        operations,
-        contexts,
-        order,
-        stack,
-        registers,
-        saved,
-        responses,
-        settled,
-    )
 }
 
 // Puts the printout of at most MOST_INPUT bytes.
@@ -458,6 +200,16 @@ fn put_printout(out: &mut [u8], input: &[u8]) -> usize
     if input.len() < SHOP_BYTES {
         return report::put_refused(out, 0, refusal::CUT_SHORT as u64);
     }
+    let panels = input[0];
+    let own = input[1];
+    let mut shop: u8 = 0;
+    let mut committed: usize = 0;
+    let mut ordered: usize = 0;
+    let mut executed: usize = 0;
+    let mut stacked: usize = 0;
+    let mut commits: u32 = 0;
+    let mut clock: u32 = 0;
+    let mut events: u8 = 0;
     let mut held = [0u64; 8];
     let mut known = [0u64; 8];
     let mut awaiting = [0u64; 8];
@@ -470,9 +222,15 @@ fn put_printout(out: &mut [u8], input: &[u8]) -> usize
     let mut saved = [0u64; 512];
     let mut responses = [0u32; 512];
     let mut settled = [0u64; 8];
-    put_shop(
-        out,
-        input,
+    let opened = replica::fresh(
+        &mut committed,
+        &mut ordered,
+        &mut executed,
+        &mut stacked,
+        &mut commits,
+        &mut clock,
+        &mut shop,
+        &mut events,
         &mut held,
         &mut known,
         &mut awaiting,
@@ -485,6 +243,51 @@ fn put_printout(out: &mut [u8], input: &[u8]) -> usize
         &mut saved,
         &mut responses,
         &mut settled,
+        panels,
+        PanelNo(own),
+    );
+    if opened.refusal != refusal::ACCEPTED {
+        return report::put_refused(out, 0, refusal::BAD_SHOP as u64);
+    }
+    let mut undos = opened.counters.undos;
+    let mut executions = opened.counters.executions;
+    let messages_at = report::put_board(out, 0, panels as u64, own as u64);
+    let closing_at = put_messages(
+        out,
+        messages_at,
+        input,
+        shop,
+        opened.own,
+        &mut committed,
+        &mut ordered,
+        &mut executed,
+        &mut stacked,
+        &mut commits,
+        &mut clock,
+        &mut events,
+        &mut undos,
+        &mut executions,
+        &mut held,
+        &mut known,
+        &mut awaiting,
+        &mut clocks,
+        &mut operations,
+        &mut contexts,
+        &mut order,
+        &mut stack,
+        &mut registers,
+        &mut saved,
+        &mut responses,
+        &mut settled,
+    );
+    put_closing(
+        out,
+        closing_at,
+        committed,
+        ordered,
+        undos,
+        executions,
+        &registers,
     )
 }
 

@@ -17,6 +17,7 @@ use Rattle.numbers.specs.Numbers.{mostPanels, mostEvents}
 use Rattle.sets.specs.declared.Context.{Context}
 use Rattle.request.specs.declared.Request.{Request}
 use Rattle.sets.specs.Sets.{emptySet, setOf, Words, isEmpty, allZero}
+use Rattle.parts.specs.Widths.{settlementWidths}
 use Rattle.parts.proofs.IntegerLaws.{Bytes}
 use Rattle.parts.proofs.WidthLaws.{decode-within, within-drop, words-small}
 use Rattle.wire.specs.declared.Kind.{Kind}
@@ -24,7 +25,8 @@ use Rattle.wire.specs.declared.Kind.the-variants.{Weak, Strong, Settleme
 use Rattle.wire.specs.Layout.{kindNumber, layout, kindWith, widthsWith, decode, headFields, contextField}
 use Rattle.wire.specs.Layout.{leastSize, mostSize, leastMessage, longestMessage}
 use Rattle.wire.specs.Message.{BusMessage, request, settlement, kindOf, spareByte, numberFields, bodyFields, frontOf, runOf, behindOf}
-use Rattle.wire.specs.Message.{contents, widthsOf, sizeOf, fieldsOf, requestFrom, messageFrom, weakWithContext, ContextWords, Fits}
+use Rattle.wire.specs.Message.{contents, widthsOf, sizeOf, fieldsOf, numberFrom, requestFrom, messageFrom}
+use Rattle.wire.specs.Message.{weakWithContext, ContextWords, Fits}
 use Rattle.wire.specs.Reader.{runAt, fieldsAt, spareSet}
 use Rattle.wire.specs.internal.LaidOut.{LaidOut}
 
@@ -42,6 +44,9 @@ pub record KindLaws (k : Kind) : Type 0 where
   -- the message with given fields is of this kind and can be sent
   pub kind-kept : (f : List ℕ) → kindOf (messageFrom k f) ≡ k
   pub sendable : (f : List ℕ) → weakWithContext (messageFrom k f) ≡ false
+  -- the number that it names stands where a settlement has it
+  pub number-first : (n : ℕ) (s : List ℕ) (at : ℕ)
+      → numberFrom (decode (widthsWith k n) s at) ≡ numberFrom (decode settlementWidths s at)
   -- a message that is laid out at a place has the run and the contents that stand there
   pub run-kept : (s : List ℕ) (at : ℕ) → LaidOut k s at → length (runOf (messageFrom k (fieldsAt k s at))) ≡ runAt k s at
   pub contents-kept : (s : List ℕ) (at : ℕ) → LaidOut k s at → ContentsOf k (fieldsAt k s at)
@@ -96,7 +101,7 @@ unfolding contents frontOf runOf behindOf messageFrom widthsWith layout decode
 weak-contents s at clear = let zero = spares-zero Weak (plain Weak s at) clear .0 in rw zero
 
 weak-laws : KindLaws Weak
-unfolding kindWith leastSize mostSize widthsWith layout kindOf messageFrom weakWithContext isEmpty allZero runOf
+unfolding kindWith leastSize mostSize widthsWith layout decode kindOf messageFrom weakWithContext isEmpty allZero runOf
 weak-laws = record {
   known = refl;
   small = lit< tt;
@@ -104,6 +109,7 @@ weak-laws = record {
   longest = lit≤ tt;
   kind-kept = λ f. refl;
   sendable = λ f. refl;
+  number-first = λ n s at. refl;
   run-kept = λ s at laid. sym (no-run Weak s at laid refl);
   contents-kept = λ s at laid. plainly Weak refl s at laid (ContentsOf Weak) (weak-contents s at);
   words-kept = λ s at laid b. record { count = refl; small = zeros-small mostPanels };
@@ -122,7 +128,7 @@ strong-words s at b =
     record { count = refl; small = words-small mostPanels (drop contextField (plain Strong s at)) context }
 
 strong-laws : KindLaws Strong
-unfolding kindWith leastSize mostSize widthsWith layout kindOf messageFrom weakWithContext runOf
+unfolding kindWith leastSize mostSize widthsWith layout decode kindOf messageFrom weakWithContext runOf
 strong-laws = record {
   known = refl;
   small = lit< tt;
@@ -130,6 +136,7 @@ strong-laws = record {
   longest = lit≤ tt;
   kind-kept = λ f. refl;
   sendable = λ f. refl;
+  number-first = λ n s at. refl;
   run-kept = λ s at laid. sym (no-run Strong s at laid refl);
   contents-kept = λ s at laid. plainly Strong refl s at laid (ContentsOf Strong) (strong-contents s at);
   words-kept = λ s at laid b. plainly Strong refl s at laid (λ f. ContextWords (messageFrom Strong f)) (λ _. strong-words s at b);
@@ -142,7 +149,7 @@ unfolding contents frontOf runOf behindOf messageFrom widthsWith layout decode
 settlement-contents s at = refl
 
 settlement-laws : KindLaws Settlement
-unfolding kindWith leastSize mostSize widthsWith layout kindOf messageFrom weakWithContext runOf
+unfolding kindWith leastSize mostSize widthsWith layout decode kindOf messageFrom weakWithContext runOf
 settlement-laws = record {
   known = refl;
   small = lit< tt;
@@ -150,6 +157,7 @@ settlement-laws = record {
   longest = lit≤ tt;
   kind-kept = λ f. refl;
   sendable = λ f. refl;
+  number-first = λ n s at. refl;
   run-kept = λ s at laid. sym (no-run Settlement s at laid refl);
   contents-kept = λ s at laid. plainly Settlement refl s at laid (ContentsOf Settlement) (λ _. settlement-contents s at);
   words-kept = λ s at laid b. tt;

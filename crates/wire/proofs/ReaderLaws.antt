@@ -1,10 +1,11 @@
 -- What the reader's definitions give, case by case, and what holds where a message is read.
 use Prim.Native.Nat.{ℕ, _+_, _-_, _≤_, _<_}
-use mathlib.Core.Path.{_≡_, refl, ap, _∙_}
+use mathlib.Core.Path.{_≡_, refl, sym, ap, _∙_}
 use mathlib.Core.Bool.{Bool, true, false, not, cond}
 use mathlib.Core.List.{List, [], _∷_}
-use mathlib.Core.Option.{Option, some}
+use mathlib.Core.Option.{Option, none, some}
 use native.Mathlib.Omega.{arith}
+use native.Mathlib.Decide.{decLt}
 use lib.Dec.{leb, eqb}
 use lib.ListN.{length, getD}
 use borrow.Author.Tests.{le-leb, lt-leb, lt-ltb, le-ltb, eq-eqb, ne-eqb, ltb-false}
@@ -12,7 +13,7 @@ use Rattle.lists.specs.Lists.{one, somePasses}
 use Rattle.request.specs.Refusal as refusal
 use Rattle.wire.specs.declared.Kind.{Kind}
 use Rattle.wire.specs.Layout.{kindNumber, kindWith, layout, leastSize, mostSize, headSize}
-use Rattle.wire.specs.Message.{spareByte, messageFrom}
+use Rattle.wire.specs.Message.{BusMessage, spareByte, messageFrom}
 use Rattle.wire.specs.Reader.{message, end, refused, lengthAt, kindAt, fieldsAt, spareSet}
 use Rattle.wire.specs.internal.LaidOut.{LaidOut}
 use Rattle.wire.specs.Reader.{refusalAs, readAs, readWith, readAt}
@@ -99,3 +100,23 @@ module _ (s : List ℕ) (at : ℕ) where
 
     pub of-kind : (k : Kind) → kindAt s at ≡ kindNumber k → readAt s at ≡ readAs k s at
     of-kind k e = of-option (some k) (ap kindWith e ∙ kind-laws k .known)
+
+-- ---- where bytes are left
+
+told-of-kind : (b : Bool) (m : BusMessage) (n w : ℕ) → cond b (message m n) (refused w) ≡ end → ⊥
+told-of-kind true m n w e = let no : _≡_ {A = ℕ} 0 1 = cc in omega arith
+told-of-kind false m n w e = let no : _≡_ {A = ℕ} 0 1 = cc in omega arith
+
+module _ (s : List ℕ) (at : ℕ) where
+  told-of-number : (o : Option Kind) → readWith o s at ≡ end → ⊥
+  unfolding readAs
+  told-of-number none e = let no : _≡_ {A = ℕ} 0 1 = cc in omega arith
+  told-of-number (some k) e = told-of-kind (eqb (refusalAs k s at) refusal.accepted) _ _ _ e
+
+  -- the end is not read
+  pub not-at-end : at < length s → readAt s at ≡ end → ⊥
+  not-at-end inside e =
+      elim (decLt (length s - at) headSize) [
+        | yes short ↦ let no : _≡_ {A = ℕ} 0 1 = cc (head-cut s at inside short) in omega arith
+        | no long ↦ told-of-number (kindWith (kindAt s at)) (sym (of-option s at inside (omega arith) _ refl) ∙ e)
+      ]

@@ -4,6 +4,7 @@
 --     read-fits, read-sendable      so the writer refuses nothing that was read, given room
 --     written-reads, read-writes    the same two of the writer's lent part
 --     taken-least, taken-inside     a message takes at least the bytes of the shortest, and no more than are left
+--     kind-told, number-told        its kind's number and the number that it names stand at the same places in each kind
 --     place-inside     no answer moves a place past the end
 -- One argument serves every kind: what it asks of one stands in `KindLaws`.
 use Prim.Native.Nat.{ℕ, _+_, _-_, _≤_, _<_}
@@ -21,11 +22,12 @@ use Rattle.wire.specs.declared.Kind.{Kind}
 use Rattle.wire.specs.Layout.{kindNumber, kindWith, widthsWith, leastSize, mostSize, leastMessage, size, decode, encode, Within}
 use Rattle.wire.specs.Layout.{lengthField, kindField, headFields, headSize}
 use Rattle.wire.specs.Message.{BusMessage, kindOf, runOf, contents, widthsOf, sizeOf, fieldsOf, bytesOf, messageFrom}
-use Rattle.wire.specs.Message.{weakWithContext, Fits}
+use Rattle.wire.specs.Message.{numberFrom, weakWithContext, Fits}
 use Rattle.wire.specs.Reader.{Outcome, message, end, refused, answered}
 use Rattle.wire.specs.Reader.{lengthAt, kindAt, runAt, fieldsAt, spareSet, refusalAs, readAs, readAt}
 use Rattle.wire.specs.internal.LaidOut.{LaidOut}
 use Rattle.wire.specs.Writer.{writeRefusal, writeAnswer, afterWrite}
+use Rattle.parts.specs.Widths.{settlementWidths}
 use Rattle.parts.proofs.IntegerLaws.{Bytes}
 use Rattle.parts.proofs.WidthLaws.{fields-back, run-back, decode-within}
 use Rattle.wire.proofs.LayoutLaws.{size-with, head-least, known-number}
@@ -188,6 +190,21 @@ module _ (s : List ℕ) (at : ℕ) (m : BusMessage) (n : ℕ) (read : readAt s a
   taken-size =
       let t = taken s at m n read in
       t .taken-is ∙ sym (ap sizeOf (t .message-is) ∙ size-kept (t .kind) s at (t .kind-is) (t .laid))
+
+  -- its kind's number stands in its head
+  pub kind-told : kindAt s at ≡ kindNumber (kindOf m)
+  kind-told =
+      let t = taken s at m n read in
+      t .kind-is ∙ sym (ap kindNumber (ap kindOf (t .message-is) ∙ kind-laws (t .kind) .kind-kept _))
+
+  -- and the number that it names behind that
+  pub number-told : numberFrom (fieldsOf m) ≡ numberFrom (decode settlementWidths s at)
+  unfolding fieldsAt
+  number-told =
+      let t = taken s at m n read in
+      ap (λ (b : BusMessage). numberFrom (fieldsOf b)) (t .message-is)
+      ∙ ap numberFrom (fields-kept (t .kind) s at (t .kind-is) (t .laid))
+      ∙ kind-laws (t .kind) .number-first _ s at
 
   -- it is no weak request with a context
   pub read-sendable : weakWithContext m ≡ false

@@ -1,75 +1,79 @@
 -- `put_line` meets its contract.
-use Prim.Native.Nat.{_<_, _^_}
+use Prim.Native.Nat.{_<_, _≤_, _^_}
 use native.Mathlib.Omega.{arith}
-use Rattle.report.proofs.SizeLaws.{unread-short}
-use Rattle.sheet.proofs.PuttingLaws.{put-message-line, put-end-line, put-unread-line}
+use mathlib.Core.Path.{_≡_}
+use lib.ListN.{length}
+use Rattle.parts.specs.Widths.{decode}
+use Rattle.report.specs.Lines.{messageLine}
+use Rattle.report.specs.Sizes.{mostMessageBytes}
+use Rattle.report.proofs.SizeLaws.{message-short}
+use Rattle.wire.specs.Reader.{kindAt}
+use Rattle.sheet.proofs.PuttingLaws.{line-told}
 use borrow.Author.Needs.{needs}
 use Rattle.sheet.proofs.put_line.Statement.{statement}
 use Rattle.sheet.proofs.put_line.Tie as tie
 
--- ---- earlier places of the function, from later ones
+abbrev start : tie.After-number-at → tie.Start
+start c = c .before .before .before .before
 
-abbrev start : tie.After-put-unread-arg → tie.Start
-start c = c .before .before .before .before .before
+-- the kind's number was read
+kind-read : (c : tie.After-integer-at) → let a = c .before .before .before .args in
+    c .integer-at .result ≡ kindAt (a .input .now) (a .from)
+unfolding kindAt decode
+kind-read c = c .integer-at .ensures .0
 
-abbrev after-answer : tie.After-slice-known3 → tie.After-answer
-after-answer c = c .before .before .before .before .before
+-- what the types say
+small : (c : tie.After-number-at) → let a = start c .args in
+    (c .number-at .result .panel .0 < 2 ^ 8) × (c .number-at .result .event .0 < 2 ^ 8) × (a .refusal < 2 ^ 8) × (a .undone < 2 ^ 32)
+small c = (search needs, search needs, search needs, search needs)
 
-enum-told : tie.Need-enum-told
-enum-told c = search needs
+short : (c : tie.After-number-at) → let a = start c .args in
+    let n = c .number-at .result in
+    length (messageLine (a .place) (c .before .integer-at .result) (n .panel .0) (n .event .0) (a .refusal) (a .undone)) ≤ mostMessageBytes
+short c =
+    let kind : c .before .integer-at .result < 2 ^ 16 = omega (arith, c .before .integer-at .ensures .1) in
+    message-short _ _ _ _ _ _ (omega (arith, start c .pre .1 .0)) kind (small c .0) (small c .1) (small c .2) (small c .3)
 
-put-message-line-requires : tie.Need-put-message-line-requires
-put-message-line-requires c κs = search needs
+add-kind-at : tie.Need-add-kind-at
+add-kind-at c = search needs
 
-enum-told-2 : tie.Need-enum-told-2
-enum-told-2 c = search needs
+integer-at-requires : tie.Need-integer-at-requires
+integer-at-requires c κs = search needs
 
-enum-known-answer : tie.Need-enum-known-answer
-enum-known-answer c = search needs
+number-at-requires : tie.Need-number-at-requires
+number-at-requires c κs = search needs
 
-cast-put-unread : tie.Need-cast-put-unread
-cast-put-unread c = search needs
+cast-put-message : tie.Need-cast-put-message
+cast-put-message c = search needs
 
-put-unread-requires : tie.Need-put-unread-requires
-put-unread-requires c κs =
-    let s = start c in
-    let small : c .before .before .answer .given .0 .0 < 2 ^ 8 = search needs in
-    let short = unread-short (s .args .place) (c .before .before .answer .given .0 .0) (omega (arith, s .pre .1)) small in
-    record { fits = omega (arith, s .pre .0, short) }
+cast-put-message-2 : tie.Need-cast-put-message-2
+cast-put-message-2 c = search needs
+
+put-message-requires : tie.Need-put-message-requires
+put-message-requires c κs = record { fits = omega (arith, start (c .before) .pre .0, short (c .before)) }
 
 same-length : tie.Need-same-length
 same-length c = search needs
 
 returns : tie.Need-returns
 returns c =
-    let w = c .before .before .put-message-line .ensures in
-    put-message-line _ _ _ _ _ _ _ _ (c .before .before .before .before .enum-told .given .1) (w .written) (w .few)
-
-returns-2 : tie.Need-returns-2
-returns-2 c = put-end-line _ _ _ _ _ _ (c .enum-told2 .given .1)
-
-same-length-2 : tie.Need-same-length-2
-same-length-2 c = search needs
-
-returns-3 : tie.Need-returns-3
-returns-3 c =
-    let told = after-answer c in
-    let s = told .before .before .before in
-    let small : told .answer .given .0 .0 < 2 ^ 8 = search needs in
-    put-unread-line _ _ _ _ _ _ _ _ _ (told .answer .given .1) small (s .pre .1) (c .before .before .put-unread .ensures)
+    let told = c .before .before .before .before in
+    let w = c .before .before .put-message .ensures in
+    record {
+      written = λ m n read.
+          rw (line-told _ _ m n read _ _ _ _ (told .number-at .result) (kind-read (told .before)) (told .number-at .ensures)) w;
+      few = omega (arith, w .place, short told);
+    }
 
 pub put-line-spec : {M : Type 1} → statement M
 put-line-spec =
     tie.close
     (tie.spec
-    enum-told
-    put-message-line-requires
-    enum-told-2
-    enum-known-answer
-    cast-put-unread
-    put-unread-requires
+    add-kind-at
+    integer-at-requires
+    number-at-requires
+    cast-put-message
+    cast-put-message-2
+    put-message-requires
     same-length
-    returns
-    returns-2
-    same-length-2
-    returns-3)
+    returns)

@@ -1,111 +1,201 @@
 -- `put_messages` meets its contract.
-use Prim.Native.Nat.{_-_, _≤_}
+use Prim.Native.Nat.{ℕ, _+_, _-_, _≤_, _<_, _^_}
 use native.Mathlib.Omega.{arith}
-use mathlib.Core.Path.{refl}
+use mathlib.Core.Path.{refl, _∙_}
+use mathlib.Core.List.{List}
 use lib.ListN.{length}
 use borrow.Author.Needs.{needs}
-use Rattle.replica.specs.State.{packed}
-use Rattle.replica.specs.internal.Model.{model}
-use Rattle.sheet.proofs.PuttingLaws.{Putting, put-start, line-room, n-within, put-step, put-end}
+use Rattle.numbers.specs.declared.PanelNo.{PanelNo}
+use Rattle.numbers.specs.Numbers.{clockReading}
+use Rattle.replica.specs.State.{State, packed}
+use Rattle.counters.specs.Counted.{mostSteps}
+use Rattle.replica.proofs.BoundLaws.{undos-fit, executions-fit}
+use Rattle.text.proofs.PlacedLaws.{same-size}
+use Rattle.report.specs.Sizes.{mostMessageBytes}
+use Rattle.report.proofs.SizeLaws.{unread-short}
+use Rattle.wire.specs.Layout.{leastMessage}
+use Rattle.printed.specs.Printout.{mostInput}
+use Rattle.sheet.proofs.PuttingLaws.{Putting, panelIn, stateAfter, put-start, line-room, put-last, within, put-step, put-end}
 use Rattle.sheet.proofs.put_messages.Statement.{statement}
 use Rattle.sheet.proofs.put_messages.Tie as tie
 
+-- the memory with those numbers and arrays
+abbrev memory : ℕ → PanelNo → (committed ordered executed stacked commits clock events undos executions : ℕ)
+    (held known awaiting clocks operations contexts order stack registers saved responses settled : List ℕ) → State
+memory panels own committed ordered executed stacked commits clock events undos executions held known awaiting clocks operations contexts
+    order stack registers saved responses settled =
+    packed
+    (record {
+      panels = panels;
+      own = own;
+      events = events;
+      clock = clockReading clock;
+      committed = committed;
+      ordered = ordered;
+      executed = executed;
+      stacked = stacked;
+      commits = commits;
+    })
+    (record { undos = undos; executions = executions })
+    held known awaiting clocks operations contexts order stack registers saved responses settled
+
 abbrev Inv-loop : tie.InvT-loop
-Inv-loop out₀ from input held₀ known₀ awaiting₀ clocks₀ operations₀ contexts₀ order₀ stack₀ registers₀ saved₀ responses₀ settled₀ after₀
-    counted₀ at₀ behind₀ place₀ out held known awaiting clocks operations contexts order stack registers saved responses settled after
-    counted at behind place =
+Inv-loop out₀ from input panels own committed₀ ordered₀ executed₀ stacked₀ commits₀ clock events undos₀ executions₀ held₀ known₀
+    awaiting₀ clocks₀ operations₀ contexts₀ order₀ stack₀ registers₀ saved₀ responses₀ settled₀ at₀ behind₀ place₀ out committed ordered
+    executed stacked commits undos executions held known awaiting clocks operations contexts order stack registers saved responses
+    settled at behind place =
     Putting
-    (model (packed after₀ counted₀ held₀ known₀ awaiting₀ clocks₀ operations₀ contexts₀ order₀ stack₀ registers₀ saved₀ responses₀
-    settled₀)) input out₀ from out
-    (packed after counted held known awaiting clocks operations contexts order stack registers saved responses settled)
-    at behind place
+    (memory panels own committed₀ ordered₀ executed₀ stacked₀ commits₀ clock events undos₀ executions₀ held₀ known₀ awaiting₀ clocks₀
+    operations₀ contexts₀ order₀ stack₀ registers₀ saved₀ responses₀ settled₀)
+    input out₀ from
+    (memory panels own committed ordered executed stacked commits clock events undos executions held known awaiting clocks operations
+    contexts order stack registers saved responses settled)
+    out at behind place
 
 abbrev μ-loop : tie.MeasureT-loop
-μ-loop out₀ from input held₀ known₀ awaiting₀ clocks₀ operations₀ contexts₀ order₀ stack₀ registers₀ saved₀ responses₀ settled₀ after₀
-    counted₀ at₀ behind₀ place₀ out held known awaiting clocks operations contexts order stack registers saved responses settled after
-    counted at behind place =
+μ-loop out₀ from input panels own committed₀ ordered₀ executed₀ stacked₀ commits₀ clock events undos₀ executions₀ held₀ known₀ awaiting₀
+    clocks₀ operations₀ contexts₀ order₀ stack₀ registers₀ saved₀ responses₀ settled₀ at₀ behind₀ place₀ out committed ordered executed
+    stacked commits undos executions held known awaiting clocks operations contexts order stack registers saved responses settled at
+    behind place =
     length input - at
 
 -- ---- earlier places of the function, from later ones
 
-abbrev after-read : tie.After-hear-arg12 Inv-loop μ-loop → tie.After-read Inv-loop μ-loop
-after-read c = c .before .before .before .before .before .before .before .before .before .before .before .before
+abbrev start : tie.At-loop Inv-loop μ-loop → tie.Start Inv-loop μ-loop
+start c = c .before .before .before
 
-abbrev after-hear : tie.After-slice-known2 Inv-loop μ-loop → tie.After-hear Inv-loop μ-loop
-after-hear c = c .before .before .before .before .before .before
+-- the turn in which a message is received
+abbrev turn : tie.After-receive-arg14 Inv-loop μ-loop → tie.In-loop Inv-loop μ-loop
+turn c = c .before .before .before .before .before .before .before .before .before .before .before .before .before .before
 
--- the turn in which a message is heard
-abbrev turn : tie.After-hear Inv-loop μ-loop → tie.After-read Inv-loop μ-loop
-turn c = c .before .before .before .before .before .before .before .before .before .before .before .before .before
+-- the message whose due steps are called
+abbrev taken : tie.After-run-due-arg9 Inv-loop μ-loop → tie.Else1 Inv-loop μ-loop
+taken c = c .before .before .before .before .before .before .before .before .before .before .before
 
-abbrev start : tie.After-read Inv-loop μ-loop → tie.Start Inv-loop μ-loop
-start c = c .before .before .before .before .before
+-- the due steps, from where their line is put
+abbrev ran : tie.After-slice-known3 Inv-loop μ-loop → tie.After-run-due Inv-loop μ-loop
+ran c = c .before .before .before .before .before .before .before
 
--- the message whose bytes are passed over
-abbrev heard : tie.After-bytes-passed Inv-loop μ-loop → tie.After-hear Inv-loop μ-loop
-heard c = c .before .before .before .before .before .before .before
-
--- what is passed over lies within the bytes left
-taken : (c : tie.After-bytes-passed Inv-loop μ-loop) → let t = turn (heard c) in
-    (1 ≤ c .bytes-passed .result) × (c .bytes-passed .result ≤ length (start t .args .input .now) - t .before .before .loop .at)
-taken c =
-    let h = heard c in
-    let t = turn h in
-    n-within _ _ _ _ _ _ _ _ _ (t .before .loop-test .taken) (t .before .before .loop .inv) (t .read .result) (t .read .ensures)
-    _ (h .hear .result) (h .hear .ensures) (c .bytes-passed .result) (c .bytes-passed .ensures)
+-- ---- the turn
 
 loop-holds : tie.Need-loop-holds Inv-loop μ-loop
 loop-holds c = put-start _ _ _ _ (c .before .before .pre .0) (c .before .before .pre .1 .0)
 
-read-requires : tie.Need-read-requires Inv-loop μ-loop
-read-requires c κs = search needs
+receive-requires : tie.Need-receive-requires Inv-loop μ-loop
+receive-requires c κs =
+    let put = turn c .before .loop .inv in
+    record { panel = panelIn put; invariant = put .invariant }
 
-hear-requires : tie.Need-hear-requires Inv-loop μ-loop
-hear-requires c κs =
-    let t = after-read c in
-    t .before .before .loop .inv .invariant
+-- there is room for a line, and its place is one of few
+room : (c : tie.In-loop Inv-loop μ-loop) → let l = c .before .loop in
+    (l .behind + mostMessageBytes ≤ length (l .out)) × (l .place ≤ mostInput)
+room c = let pre = start (c .before) .pre .1 .1 in line-room (c .before .loop .inv) (c .loop-test .taken) (pre .1) (pre .0)
 
-put-line-requires : tie.Need-put-line-requires Inv-loop μ-loop
-put-line-requires c κs =
-    let t = turn (c .before .before .before) in
-    let pre = start t .pre .1 .1 in
-    line-room _ _ _ _ _ _ _ _ _ (t .before .loop-test .taken) (t .before .before .loop .inv) (pre .1) (pre .0)
+-- ---- what cannot be read
 
-sub-bytes-passed : tie.Need-sub-bytes-passed Inv-loop μ-loop
-sub-bytes-passed c = let t = turn (after-hear c) in omega (arith, t .before .loop-test .taken)
+-- what the type says
+small : (c : tie.After-receive Inv-loop μ-loop) → c .receive .result .answer .refusal < 2 ^ 8
+small c = search needs
 
-bytes-passed-requires : tie.Need-bytes-passed-requires Inv-loop μ-loop
-bytes-passed-requires c κs = search needs
+cast-put-unread : tie.Need-cast-put-unread Inv-loop μ-loop
+cast-put-unread c = search needs
 
-add-at : tie.Need-add-at Inv-loop μ-loop
-add-at c =
-    let t = turn (heard c) in
-    omega (arith, taken c .1, t .before .loop-test .taken, start t .pre .1 .1 .0)
-
-add-place : tie.Need-add-place Inv-loop μ-loop
-add-place c =
-    let t = turn (heard c) in
-    let pre = start t .pre .1 .1 in
-    let room = line-room _ _ _ _ _ _ _ _ _ (t .before .loop-test .taken) (t .before .before .loop .inv) (pre .1) (pre .0) in
-    omega (arith, room .1)
-
-loop-less : tie.Need-loop-less Inv-loop μ-loop
-loop-less c = omega (arith, taken c .0, turn (heard c) .before .loop-test .taken)
-
-loop-again : tie.Need-loop-again Inv-loop μ-loop
-loop-again c =
-    let h = heard c in
-    let t = turn h in
-    put-step _ _ _ _ _ _ _ _ _ (t .before .loop-test .taken) (t .before .before .loop .inv) (t .read .result) (t .read .ensures)
-    _ (h .hear .result) (h .hear .ensures) (c .bytes-passed .result) (c .bytes-passed .ensures) _ _
-    (c .before .before .before .put-line .ensures)
+put-unread-requires : tie.Need-put-unread-requires Inv-loop μ-loop
+put-unread-requires c κs =
+    let call = c .before .before in
+    let t = turn (call .before) in
+    let short = unread-short (t .before .loop .place) (call .receive .result .answer .refusal) (omega (arith, room t .1)) (small call) in
+    record { fits = omega (arith, room t .0, short) }
 
 same-length : tie.Need-same-length Inv-loop μ-loop
-same-length c = c .before .loop .inv .lines .size
+same-length c =
+    let unread = c .before .before in
+    same-size (unread .put-unread .ensures) ∙ turn (unread .before .before .before .before) .before .loop .inv .lines .size
 
 returns : tie.Need-returns Inv-loop μ-loop
 returns c =
-    put-end _ _ _ _ _ _ _ _ _ (c .loop-test .left) (c .before .before .before .before .pre .1 .1 .0) (c .before .loop .inv) _ refl
+    let unread = c .before .before in
+    let none = unread .before .before in
+    let call = none .before in
+    let t = turn (call .before) in
+    let put = t .before .loop .inv in
+    let got = call .receive .ensures .kept (panelIn put) (put .invariant) in
+    put-last put (t .loop-test .taken) got (none .if1 .taken) (start (t .before) .pre .1 .1 .0) (small call) (unread .put-unread .ensures)
+
+-- ---- a message
+
+-- it lies within the bytes
+inside : (c : tie.Else1 Inv-loop μ-loop) → let call = c .before in
+    let at = turn (call .before) .before .loop .at in
+    let size = length (start (turn (call .before) .before) .args .input .now) in
+    let n = call .receive .result .taken in
+    (at + leastMessage ≤ size) × (leastMessage ≤ n) × (at + n ≤ size)
+inside c =
+    let t = turn (c .before .before) in
+    let put = t .before .loop .inv in
+    within put (t .loop-test .taken) (c .before .receive .ensures .kept (panelIn put) (put .invariant)) (c .if1 .left)
+
+run-due-requires : tie.Need-run-due-requires Inv-loop μ-loop
+run-due-requires c κs =
+    let call = taken c .before in
+    let put = turn (call .before) .before .loop .inv in
+    let got = call .receive .ensures .kept (panelIn put) (put .invariant) in
+    record { panel = stateAfter got; invariant = got .invariant }
+
+-- the counters have room for the steps
+counters-fit : (c : tie.After-run-due Inv-loop μ-loop) → let l = turn (taken (c .before) .before .before) .before .loop in
+    (l .undos + c .run-due .result .undos ≤ mostSteps) × (l .executions + c .run-due .result .executions ≤ mostSteps)
+counters-fit c =
+    let call = taken (c .before) .before in
+    let put = turn (call .before) .before .loop .inv in
+    let got = call .receive .ensures .kept (panelIn put) (put .invariant) in
+    let invariant = c .run-due .ensures .kept (stateAfter got) (got .invariant) .invariant in
+    (undos-fit _ invariant, executions-fit _ invariant)
+
+add-undos-done : tie.Need-add-undos-done Inv-loop μ-loop
+add-undos-done c = omega (arith, counters-fit (c .before) .0)
+
+add-executions-done : tie.Need-add-executions-done Inv-loop μ-loop
+add-executions-done c = omega (arith, counters-fit (c .before .before .before) .1)
+
+put-line-requires : tie.Need-put-line-requires Inv-loop μ-loop
+put-line-requires c κs =
+    let some = taken (c .before .before .before .before .before) in
+    let fits = room (turn (some .before .before)) in
+    (fits .0, (fits .1, inside some .0))
+
+add-at : tie.Need-add-at Inv-loop μ-loop
+add-at c =
+    let some = taken (ran c .before) in
+    omega (arith, inside some .2, start (turn (some .before .before) .before) .pre .1 .1 .0)
+
+add-place : tie.Need-add-place Inv-loop μ-loop
+add-place c = omega (arith, room (turn (taken (ran c .before) .before .before)) .1)
+
+loop-less : tie.Need-loop-less Inv-loop μ-loop
+loop-less c =
+    let some = taken (ran c .before) in
+    let size = inside some in
+    omega (arith, size .1, size .2, turn (some .before .before) .loop-test .taken)
+
+loop-again : tie.Need-loop-again Inv-loop μ-loop
+loop-again c =
+    let due = ran c in
+    let some = taken (due .before) in
+    let call = some .before in
+    let t = turn (call .before) in
+    let put = t .before .loop .inv in
+    let got = call .receive .ensures .kept (panelIn put) (put .invariant) in
+    let steps = due .run-due .ensures .kept (stateAfter got) (got .invariant) in
+    put-step put (t .loop-test .taken) got (some .if1 .left) steps refl (c .before .before .put-line .ensures)
+
+-- ---- the end
+
+same-length-2 : tie.Need-same-length-2 Inv-loop μ-loop
+same-length-2 c = c .before .loop .inv .lines .size
+
+returns-2 : tie.Need-returns-2 Inv-loop μ-loop
+returns-2 c = put-end (c .before .loop .inv) (c .loop-test .left) (start (c .before) .pre .1 .1 .0)
 
 pub put-messages-spec : {M : Type 1} → statement M
 put-messages-spec =
@@ -114,14 +204,18 @@ put-messages-spec =
     Inv-loop
     μ-loop
     loop-holds
-    read-requires
-    hear-requires
+    receive-requires
+    cast-put-unread
+    put-unread-requires
+    same-length
+    returns
+    run-due-requires
+    add-undos-done
+    add-executions-done
     put-line-requires
-    sub-bytes-passed
-    bytes-passed-requires
     add-at
     add-place
     loop-less
     loop-again
-    same-length
-    returns)
+    same-length-2
+    returns-2)
