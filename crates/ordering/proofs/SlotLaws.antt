@@ -2,14 +2,14 @@
 -- clock order; a set without some slots.
 use Prim.Native.Nat.{ℕ, _+_, _-_, _*_, _/_, _%_, _^_, _≤_, _<_}
 use native.Mathlib.Omega.{arith}
-use native.Mathlib.Nat.{one-mul, zero-mul, mod-eq-of-lt, mod-lt, zero-lt-suc}
-use native.Mathlib.Numerals.{add-one}
+use native.Mathlib.Nat.{one-mul, zero-mul, mod-eq-of-lt, mod-lt, zero-lt-suc, pow-suc}
+use native.Mathlib.Numerals.{add-one, one-add}
 use mathlib.Core.Path.{_≡_, refl, sym, ap, _∙_}
 use mathlib.Core.Bool.{Bool, true, false, cond}
 use mathlib.Core.List.{List, _∷_}
 use lib.ListN.{length, take, getD, set}
 use lib.Seq.{slice, slice-cons, slice-empty, set-getD}
-use lib.Bits.{bitXor, xor-zero-r}
+use lib.Bits.{bitAnd, bitXor, xor-zero-r, and-high}
 use lib.Pow.{pow-lt}
 use lib.Dec.{eqb, ltb}
 use borrow.Author.Tests.{eq-eqb, ne-eqb, eqb-true, eqb-false, lt-ltb, ltb-true, ltb-false}
@@ -127,17 +127,25 @@ comes-before-order x y clocks t g h number clock =
 
 -- ---- a set without some slots
 
--- the word w less its bit k, by the digit that it has there
-digit-taken : (w k d : ℕ) → k < mostEvents → d ≡ w / 2 ^ k % 2 → (b : Bool) → bit k w ≡ b
-    → bitXor w (d * 2 ^ k % 2 ^ mostEvents) ≡ cond b (bitXor w (2 ^ k)) w
+-- what a word has in common with its bit k
+one-bit : (w k : ℕ) → bitAnd w (2 ^ k) ≡ w / 2 ^ k % 2 * 2 ^ k
+one-bit w k =
+    let power : 2 ^ (1 + k) - 2 ^ k ≡ 2 ^ k = rw (one-add k) (omega (arith, pow-suc 2 k)) in
+    ap (bitAnd w) (sym power) ∙ and-high w 1 k
+
+-- the word w less its bit k
+bit-taken : (w k : ℕ) → k < mostEvents → (b : Bool) → bit k w ≡ b
+    → bitXor w (bitAnd w (1 * 2 ^ k % 2 ^ mostEvents)) ≡ cond b (bitXor w (2 ^ k)) w
 unfolding bit
-digit-taken w k d small is true e =
-    let set : d ≡ 1 = is ∙ eqb-true _ 1 e in
-    rw (set, one-mul, mod-eq-of-lt (pow-lt {i = k} {j = mostEvents} small))
-digit-taken w k d small is false e =
-    let other = eqb-false (w / 2 ^ k % 2) 1 e in
-    let clear : d ≡ 0 = omega (arith, is, other, mod-lt (w / 2 ^ k) (zero-lt-suc 1)) in
-    rw (clear, zero-mul) (xor-zero-r w)
+bit-taken w k small b e =
+    rw (one-mul, mod-eq-of-lt (pow-lt {i = k} {j = mostEvents} small), one-bit w k) (go b e)
+  where
+    go : (b : Bool) → eqb (w / 2 ^ k % 2) 1 ≡ b → bitXor w (w / 2 ^ k % 2 * 2 ^ k) ≡ cond b (bitXor w (2 ^ k)) w
+    go true e = rw (eqb-true (w / 2 ^ k % 2) 1 e, one-mul)
+    go false e =
+        let other = eqb-false (w / 2 ^ k % 2) 1 e in
+        let clear : w / 2 ^ k % 2 ≡ 0 = omega (arith, other, mod-lt (w / 2 ^ k) (zero-lt-suc 1)) in
+        rw (clear, zero-mul) (xor-zero-r w)
 
 -- the words less the number of slot t, where it is in them
 slot-taken : (words : List ℕ) (t : ℕ) → IsSlot t → (b : Bool)
@@ -155,12 +163,12 @@ slot-taken words t h false = ap setOf (set-getD words (t / mostEvents) 0)
 pub taken-out : (words : List ℕ) (t : ℕ) → IsSlot t
     → let word = getD words (t / mostEvents) 0 in
     let bit = t % mostEvents in
-    setOf (set words (t / mostEvents) (bitXor word (word / 2 ^ bit % 2 * 2 ^ bit % 2 ^ mostEvents))) ≡ leave (setOf words) (numberOf t)
+    setOf (set words (t / mostEvents) (bitXor word (bitAnd word (1 * 2 ^ bit % 2 ^ mostEvents)))) ≡ leave (setOf words) (numberOf t)
 unfolding leave inWords
 taken-out words t h =
     let there = member (setOf words) (numberOf t) in
     ap (λ (w : ℕ). setOf (set words (t / mostEvents) w))
-    (digit-taken (getD words (t / mostEvents) 0) (t % mostEvents) _ (omega arith) refl there (in-words-member (setOf words) t h))
+    (bit-taken (getD words (t / mostEvents) 0) (t % mostEvents) (omega arith) there (in-words-member (setOf words) t h))
     ∙ slot-taken words t h there
 
 -- one slot after the other

@@ -17,8 +17,8 @@ pub fn take_out<'a>(words: &mut [u64; 8], order: &'a [u16; 512], from: usize, to
         let panel = (t / EVENTS) as usize;
         let bit = (t % EVENTS) as u64;
         let word = words[panel];
-        let there = (word >> bit) % 2;
-        words[panel] = word ^ (there << bit);
+        let mask = 1u64 << bit;
+        words[panel] = word ^ (word & mask);
         at += 1;
     }
 }

@@ -84,12 +84,29 @@ pub fn words_at(words: &mut [u64; 8], s: &[u8], from: usize)
     }
 }
 
-// The context of a strong request at a place.
+// The context of a strong request at a place, word by word, by which the compiler takes each from the bytes to where it is wanted.
 pub fn context_at(s: &[u8], at: usize) -> Context
     requires { ⌜ at + size strongWidths ≤ length (now s) ⌝ }
     ensures { λ r. ⌜ r ≡ setOf (decode contextWidths (now (s .entry)) (at + size weakWidths)) ⌝ }
 {
-    let mut words = [0u64; places::WORDS];
-    words_at(&mut words, s, at + places::CONTEXT_AT);
-    Context { words: words }
+    let first = at + places::CONTEXT_AT;
+    let second = first + places::WORD_WIDTH;
+    let third = second + places::WORD_WIDTH;
+    let fourth = third + places::WORD_WIDTH;
+    let fifth = fourth + places::WORD_WIDTH;
+    let sixth = fifth + places::WORD_WIDTH;
+    let seventh = sixth + places::WORD_WIDTH;
+    let eighth = seventh + places::WORD_WIDTH;
+    Context {
+        words: [
+            integers::word_at(s, first),
+            integers::word_at(s, second),
+            integers::word_at(s, third),
+            integers::word_at(s, fourth),
+            integers::word_at(s, fifth),
+            integers::word_at(s, sixth),
+            integers::word_at(s, seventh),
+            integers::word_at(s, eighth),
+        ],
+    }
 }

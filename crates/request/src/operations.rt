@@ -57,7 +57,7 @@ pub fn same(a: Operation, b: Operation) -> bool
     (a.code == b.code) & (a.r == b.r) & (a.q == b.q) & (a.amount == b.amount)
 }
 
-// Whether o is bad.
+// Whether o is bad: by its registers, and then by its code, so that few tests are met on the way.
 pub fn bad(o: Operation) -> bool
     ensures { λ r. ⌜ r ≡ badOperation o ⌝ }
 {
@@ -65,13 +65,18 @@ pub fn bad(o: Operation) -> bool
     let r = o.r;
     let q = o.q;
     let amount = o.amount;
+    if (LAST_REGISTER < r) | (LAST_REGISTER < q) {
+        return true;
+    }
+    if code <= CLAIM {
+        return !(READ <= code)
+            | (q != 0)
+            | ((code == READ) & (amount != 0))
+            | ((code == CLAIM) & (amount == 0));
+    }
+    if code == MOVE {
+        return r == q;
+    }
     let registers = span(o);
-    !((READ <= code) & (code <= LAST_CODE))
-        | (LAST_REGISTER < r)
-        | (LAST_REGISTER < q)
-        | ((code <= CLAIM) & (q != 0))
-        | ((code == READ) & (amount != 0))
-        | ((code == CLAIM) & (amount == 0))
-        | ((code == MOVE) & (r == q))
-        | ((code == CLAIM_ALL) & ((q < r) | (MOST_CLAIMED < registers) | (amount == 0)))
+    (code != CLAIM_ALL) | (q < r) | (MOST_CLAIMED < registers) | (amount == 0)
 }

@@ -8,6 +8,7 @@ pub mod members;
 pub mod requests;
 
 pub use members::join;
+pub use members::join_at;
 pub use members::leave;
 pub use members::member;
 pub use members::member_at;
@@ -16,3 +17,4 @@ pub use requests::asked_at;
 pub use requests::context_at;
 pub use requests::put_request;
 pub use requests::request_at;
+pub use requests::same_at;

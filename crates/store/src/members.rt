@@ -66,6 +66,17 @@ pub fn join(words: &mut [u64; 8], n: Number)
     words[panel] = word | mask;
 }
 
+// Puts the number of that slot into the set, by the slot's digits.
+pub fn join_at(words: &mut [u64; 8], slot: u16)
+    ensures { λ _. ⌜ setOf (now (words .exit)) ≡ joined (setOf (now (words .entry))) (numberOf slot) ⌝ }
+{
+    let panel = (slot / EVENTS % PANELS) as usize;
+    let bit = (slot % EVENTS) as u64;
+    let mask = 1u64 << bit;
+    let word = words[panel];
+    words[panel] = word | mask;
+}
+
 // Takes n out of the set.
 pub fn leave(words: &mut [u64; 8], n: Number)
     ensures { λ _. ⌜ setOf (now (words .exit)) ≡ left (setOf (now (words .entry))) n ⌝ }

@@ -2,6 +2,7 @@
 use numbers::Clock;
 use request::Asked;
 use request::Request;
+use request::asks;
 use sets::Context;
 ghost use mathlib.Core.Path.{_≡_};
 ghost use Prim.Native.Nat.{_*_};
@@ -9,6 +10,8 @@ ghost use lib.ListN.{length, getD};
 ghost use lib.Seq.{sets};
 ghost use Rattle.numbers.specs.Numbers.{mostPanels};
 ghost use Rattle.numbers.specs.internal.Slots.{numberOf};
+ghost use Rattle.sets.specs.Sets.{setOf, sameContext};
+ghost use Rattle.request.specs.Request.{sameRequest};
 ghost use Rattle.slots.specs.Slots.{IsSlot};
 ghost use Rattle.store.specs.Requests.{askedIn, contextAt, requestOf, requestAt, mostWords, WordAs, Long, Stored};
 
@@ -91,6 +94,46 @@ pub fn request_at<'a>(
         asked,
         context,
     }
+}
+
+// Whether the context at a slot has those words.
+fn same_words<'a>(contexts: &'a [u64; 4096], slot: usize, words: &'a [u64; 8]) -> bool
+    requires { ⌜ IsSlot slot × (length (now contexts) ≡ mostWords) × (length (now words) ≡ mostPanels) ⌝ }
+    ensures { λ r. ⌜ r ≡ sameContext (contextAt (now (contexts .entry)) slot) (setOf (now (words .entry))) ⌝ }
+{
+    let at = WORDS * slot;
+    let mut i = 0;
+    while i < WORDS {
+        let there = contexts[at + i];
+        let word = words[i];
+        if there != word {
+            return false;
+        }
+        i += 1;
+    }
+    true
+}
+
+// Whether the request at a slot is the one of the slot's number with that clock reading, what it asks for, and those words of its context.
+pub fn same_at<'a>(
+    clocks: &'a [u32; 512],
+    operations: &'a [u64; 512],
+    contexts: &'a [u64; 4096],
+    slot: u16,
+    clock: Clock,
+    asked: Asked,
+    words: &'a [u64; 8],
+) -> bool
+    requires { ⌜ IsSlot slot × Long (now clocks) (now operations) (now contexts) × (length (now words) ≡ mostPanels) ⌝ }
+    ensures { λ r. ⌜ r ≡ sameRequest (requestAt (now (clocks .entry)) (now (operations .entry)) (now (contexts .entry)) slot)
+        (requestOf (numberOf slot) clock asked (now (words .entry))) ⌝ }
+{
+    let s = slot as usize;
+    let reading = clocks[s];
+    let there = asked_at(operations, s);
+    let asking = asks::same(there, asked);
+    let named = same_words(contexts, s, words);
+    (reading == clock.0) & asking & named
 }
 
 // The word of what is asked for.

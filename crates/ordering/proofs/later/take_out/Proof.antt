@@ -44,11 +44,8 @@ mul-word c = search (needs, slot-at c)
 element-copy-out-word : tie.Need-element-copy-out-word Inv-loop μ-loop
 element-copy-out-word c = search (needs, slot-at c)
 
-shr-there : tie.Need-shr-there Inv-loop μ-loop
-shr-there c = search needs
-
-shl-words : tie.Need-shl-words Inv-loop μ-loop
-shl-words c = search needs
+shl-mask : tie.Need-shl-mask Inv-loop μ-loop
+shl-mask c = search needs
 
 mul-words : tie.Need-mul-words Inv-loop μ-loop
 mul-words c = search (needs, slot-at (c .before))
@@ -97,8 +94,7 @@ take-out-spec =
     cast-bit
     mul-word
     element-copy-out-word
-    shr-there
-    shl-words
+    shl-mask
     mul-words
     element-write-words
     add-at
