@@ -18,34 +18,7 @@ const RESPONSE_AT: usize = 4;
 // Runs a list of calls and prints its answers.
 pub(crate) fn print_run(calls: &[u8]) {
     let mut answers = page();
-    let mut held = [0u64; 8];
-    let mut known = [0u64; 8];
-    let mut awaiting = [0u64; 8];
-    let mut clocks = [0u32; 512];
-    let mut operations = [0u64; 512];
-    let mut contexts = [0u64; 4096];
-    let mut order = [0u16; 512];
-    let mut stack = [0u16; 512];
-    let mut registers = [0u32; 64];
-    let mut saved = [0u64; 512];
-    let mut responses = [0u32; 512];
-    let mut settled = [0u64; 8];
-    let ran = driver::run(
-        calls,
-        &mut answers,
-        &mut held,
-        &mut known,
-        &mut awaiting,
-        &mut clocks,
-        &mut operations,
-        &mut contexts,
-        &mut order,
-        &mut stack,
-        &mut registers,
-        &mut saved,
-        &mut responses,
-        &mut settled,
-    );
+    let ran = driver::run_list(calls, &mut answers);
     print_answers(&answers, ran.ran);
 }
 

@@ -1,3 +1,3 @@
 -- The definitions that the contracts cite.
+pub mod Lists
 pub mod Running
-pub mod Parts

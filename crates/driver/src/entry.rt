@@ -1,23 +1,28 @@
-// One call of a list, read and carried out.
-use counters::Counters;
-use counting::EntryResult;
+// One call of a list, read and carried out on the panel.
+use creek::Answer;
+use creek::mark;
 use encoding::calls;
-use replica::CallResult;
-use replica::Core;
-use wire::Message;
+use numbers::PanelNo;
 ghost use Prim.Native.Nat.{_<_};
 ghost use lib.ListN.{length};
-ghost use Rattle.replica.specs.State.{packed};
 ghost use Rattle.replica.specs.internal.Model.{Inv};
+ghost use Rattle.replica.specs.internal.Whole.{wholeNow, wholeEntry, wholeExit};
 ghost use Rattle.encoding.specs.Encoding.{entryAt};
 ghost use Rattle.encoding.specs.internal.Running.{Done};
-ghost use Rattle.intake.specs.internal.Parts.{TakeCoreAsks};
-ghost use Rattle.driver.specs.Parts.{leadsTo, MessageKept};
 
-// What a place asks for, carried out on the panel.
+// What a place asks for, carried out; the steps are counted where they are done.
 pub(crate) fn call(
-    core: Core,
-    counters: Counters,
+    panels: u8,
+    own: PanelNo,
+    committed: &mut usize,
+    ordered: &mut usize,
+    executed: &mut usize,
+    stacked: &mut usize,
+    commits: &mut u32,
+    clock: &mut u32,
+    events: &mut u8,
+    undos: &mut u32,
+    executions: &mut u32,
     held: &mut [u64; 8],
     known: &mut [u64; 8],
     awaiting: &mut [u64; 8],
@@ -32,24 +37,27 @@ pub(crate) fn call(
     settled: &mut [u64; 8],
     s: &[u8],
     at: usize,
-) -> EntryResult
-    requires { ⌜ Inv (packed core counters (now held) (now known) (now awaiting) (now clocks) (now operations) (now contexts) (now order)
-        (now stack) (now registers) (now saved) (now responses) (now settled)) ⌝ }
+) -> Answer
+    requires { ⌜ Inv (wholeNow panels own committed ordered executed stacked commits clock events undos executions
+        held known awaiting clocks operations contexts order stack registers saved responses settled) ⌝ }
     requires { ⌜ at < length (now s) ⌝ }
-    ensures { λ r. ⌜ Done
-        (packed core counters (now (held .entry)) (now (known .entry)) (now (awaiting .entry)) (now (clocks .entry))
-        (now (operations .entry)) (now (contexts .entry)) (now (order .entry)) (now (stack .entry)) (now (registers .entry))
-        (now (saved .entry)) (now (responses .entry)) (now (settled .entry)))
+    ensures { λ a. ⌜ Done
+        (wholeEntry panels own committed ordered executed stacked commits clock events undos executions
+        held known awaiting clocks operations contexts order stack registers saved responses settled)
         (entryAt (now (s .entry)) at)
-        (leadsTo r (now (held .exit)) (now (known .exit)) (now (awaiting .exit)) (now (clocks .exit)) (now (operations .exit))
-        (now (contexts .exit)) (now (order .exit)) (now (stack .exit)) (now (registers .exit)) (now (saved .exit))
-        (now (responses .exit)) (now (settled .exit))) ⌝ }
+        (record {
+          answer = a;
+          state = wholeExit panels own committed ordered executed stacked commits clock events undos executions held known
+              awaiting clocks operations contexts order stack registers saved responses settled;
+        }) ⌝ }
 {
     let tag = s[at];
     if tag == calls::ALL_DUE {
-        return counting::all_due(
-            core,
-            counters,
+        let due = due::run_due(
+            *committed,
+            *ordered,
+            executed,
+            stacked,
             awaiting,
             operations,
             order,
@@ -58,14 +66,25 @@ pub(crate) fn call(
             saved,
             responses,
         );
+        let undone = *undos + due.undos;
+        *undos = undone;
+        let carried_out = *executions + due.executions;
+        *executions = carried_out;
+        let steps = due.undos + due.executions;
+        return replica::reply(numbers::none(), steps, mark::NOBODY);
     }
     if tag == calls::UNDO {
-        return counting::undo_counted(core, counters, operations, stack, registers, saved);
+        let step = steps::undo_step(*executed, stacked, operations, stack, registers, saved);
+        let undone = *undos + step.steps;
+        *undos = undone;
+        return step.answer;
     }
     if tag == calls::EXECUTE {
-        return counting::execute_counted(
-            core,
-            counters,
+        let step = steps::execute_step(
+            *committed,
+            *ordered,
+            executed,
+            stacked,
             awaiting,
             operations,
             order,
@@ -74,62 +93,22 @@ pub(crate) fn call(
             saved,
             responses,
         );
+        let carried_out = *executions + step.steps;
+        *executions = carried_out;
+        return step.answer;
     }
     let reading = wire::read(s, at + 1);
     let message = reading.message;
-    let called = message_call(
-        core,
-        held,
-        known,
-        awaiting,
-        clocks,
-        operations,
-        contexts,
-        order,
-        stack,
-        responses,
-        settled,
-        tag,
-        message,
-    );
-    let after = called.core;
-    let answer = called.answer;
-    EntryResult {
-        core: after,
-        counters,
-        answer,
-    }
-}
-
-// The call of a message behind that tag, carried out on the panel.
-fn message_call<'a>(
-    core: Core,
-    held: &mut [u64; 8],
-    known: &mut [u64; 8],
-    awaiting: &mut [u64; 8],
-    clocks: &mut [u32; 512],
-    operations: &mut [u64; 512],
-    contexts: &mut [u64; 4096],
-    order: &mut [u16; 512],
-    stack: &'a [u16; 512],
-    responses: &'a [u32; 512],
-    settled: &mut [u64; 8],
-    tag: u8,
-    message: Message,
-) -> CallResult
-    requires { ⌜ TakeCoreAsks core (now held) (now known) (now awaiting) (now clocks) (now operations) (now contexts) (now order) (now stack)
-        (now responses) (now settled) ⌝ }
-    ensures { λ r. ⌜ MessageKept core (now (held .entry)) (now (known .entry)) (now (awaiting .entry)) (now (clocks .entry))
-        (now (operations .entry)) (now (contexts .entry)) (now (order .entry)) (now (stack .entry)) (now (responses .entry))
-        (now (settled .entry)) tag message
-        (now (held .exit)) (now (known .exit)) (now (awaiting .exit)) (now (clocks .exit)) (now (operations .exit)) (now (contexts .exit))
-        (now (order .exit)) (now (settled .exit)) r ⌝ }
-{
-    let request = message.request;
     if tag == calls::INVOKE {
+        let request = message.request;
         let asked = encoding::invocation_of(request);
-        return entering::invoke_with_core(
-            core,
+        return entering::invoke(
+            own,
+            *committed,
+            ordered,
+            executed,
+            clock,
+            events,
             held,
             known,
             awaiting,
@@ -140,8 +119,13 @@ fn message_call<'a>(
             asked,
         );
     }
-    intake::take_with_core(
-        core,
+    let reply = intake::take(
+        panels,
+        own,
+        committed,
+        ordered,
+        executed,
+        commits,
         held,
         known,
         awaiting,
@@ -153,5 +137,6 @@ fn message_call<'a>(
         responses,
         settled,
         message,
-    )
+    );
+    replica::answer_of(reply)
 }

@@ -1,43 +1,102 @@
 // Runs an encoded list of calls from fresh: bytes in, answers out in lent bytes. The encoding is in `docs/CALLS.md`.
 //
-// The panel's arrays are lent and hold its memory after the calls. `entry` reads and carries out one call; `Running` of `specs/` says what
-// a run does, `Parts` what is promised over parts of a panel.
+// The panel's numbers and arrays are locals of `run_list`, lent to all that is called from there. `entry` reads and carries out one call;
+// `Lists` of `specs/` says what a list of calls leads to, `Running` what it makes of the panel.
 mod entry;
 
-use counters::Counters;
 use encoding::answers;
 use encoding::calls;
 use numbers::PanelNo;
-use replica::Core;
+use request::refusal;
 ghost use mathlib.Core.Path.{_≡_};
+ghost use Rattle.numbers.specs.Numbers.{panelNo};
 ghost use Rattle.text.specs.Placed.{Room};
-ghost use Rattle.replica.specs.State.{packed};
 ghost use Rattle.replica.specs.internal.Model.{Inv, model};
+ghost use Rattle.replica.specs.internal.Whole.{wholeNow, wholeEntry, wholeExit};
 ghost use Rattle.encoding.specs.Encoding.{callCount, entriesOf, answersBytes};
 ghost use Rattle.encoding.specs.internal.Running.{RanAll};
+ghost use Rattle.driver.specs.Lists.{Answered};
 ghost use Rattle.driver.specs.Running.{RanList};
 
-// What a run returns: whether the lent bytes have room for the answers, the refusal of fresh, how many calls were run, and the core and
-// the counters after them.
-pub struct RunResult {
-    pub room: bool,
-    pub refusal: u8,
+// What a list of calls led to: how many were run, and refusal 20 without room for the answers, else fresh's.
+#[repr(C)]
+pub struct ListResult {
     pub ran: usize,
-    pub core: Core,
-    pub counters: Counters,
+    pub refusal: u8,
 }
 
-// What all entries lead to: the core and the counters after them.
-pub struct EntriesResult {
-    pub core: Core,
-    pub counters: Counters,
+// Runs a list of calls from fresh and puts their answers at the front of `out`; without room for all answers none is run.
+pub fn run_list(calls: &[u8], out: &mut [u8]) -> ListResult
+    ensures { λ r. ⌜ Answered (now (calls .entry)) (now (out .entry)) (now (out .exit)) r ⌝ }
+{
+    let mut shop = 0u8;
+    let mut own = 0u8;
+    let mut committed = 0usize;
+    let mut ordered = 0usize;
+    let mut executed = 0usize;
+    let mut stacked = 0usize;
+    let mut commits = 0u32;
+    let mut clock = 0u32;
+    let mut events = 0u8;
+    let mut undos = 0u32;
+    let mut executions = 0u32;
+    let mut held = [0u64; 8];
+    let mut known = [0u64; 8];
+    let mut awaiting = [0u64; 8];
+    let mut clocks = [0u32; 512];
+    let mut operations = [0u64; 512];
+    let mut contexts = [0u64; 4096];
+    let mut order = [0u16; 512];
+    let mut stack = [0u16; 512];
+    let mut registers = [0u32; 64];
+    let mut saved = [0u64; 512];
+    let mut responses = [0u32; 512];
+    let mut settled = [0u64; 8];
+    run(
+        calls,
+        out,
+        &mut shop,
+        &mut own,
+        &mut committed,
+        &mut ordered,
+        &mut executed,
+        &mut stacked,
+        &mut commits,
+        &mut clock,
+        &mut events,
+        &mut undos,
+        &mut executions,
+        &mut held,
+        &mut known,
+        &mut awaiting,
+        &mut clocks,
+        &mut operations,
+        &mut contexts,
+        &mut order,
+        &mut stack,
+        &mut registers,
+        &mut saved,
+        &mut responses,
+        &mut settled,
+    )
 }
 
-// Runs the calls of `s` from fresh, with the lent arrays as the panel's memory, and puts their answers at the front of `out`; without room
-// for all of them none is run.
+// The same on a panel whose numbers and arrays are lent: without room nothing lent is changed, else they are the panel's memory after the
+// calls. The number of panels is lent as `shop`, the own panel's as `own`.
 pub fn run(
     s: &[u8],
     out: &mut [u8],
+    shop: &mut u8,
+    own: &mut u8,
+    committed: &mut usize,
+    ordered: &mut usize,
+    executed: &mut usize,
+    stacked: &mut usize,
+    commits: &mut u32,
+    clock: &mut u32,
+    events: &mut u8,
+    undos: &mut u32,
+    executions: &mut u32,
     held: &mut [u64; 8],
     known: &mut [u64; 8],
     awaiting: &mut [u64; 8],
@@ -50,15 +109,31 @@ pub fn run(
     saved: &mut [u64; 512],
     responses: &mut [u32; 512],
     settled: &mut [u64; 8],
-) -> RunResult
+) -> ListResult
     ensures { λ r. ⌜ RanList (now (s .entry)) (now (out .entry)) (now (out .exit)) r
-        (packed (r .core) (r .counters) (now (held .exit)) (now (known .exit)) (now (awaiting .exit)) (now (clocks .exit))
-        (now (operations .exit)) (now (contexts .exit)) (now (order .exit)) (now (stack .exit)) (now (registers .exit)) (now (saved .exit))
-        (now (responses .exit)) (now (settled .exit))) ⌝ }
+        (wholeEntry (now (shop .entry)) (panelNo (now (own .entry))) committed ordered executed stacked commits clock events undos
+        executions held known awaiting clocks operations contexts order stack registers saved responses settled)
+        (wholeExit (now (shop .exit)) (panelNo (now (own .exit))) committed ordered executed stacked commits clock events undos
+        executions held known awaiting clocks operations contexts order stack registers saved responses settled) ⌝ }
 {
+    let count = encoding::call_count(s);
+    if out.len() / answers::ANSWER_SIZE < count {
+        return ListResult {
+            ran: 0,
+            refusal: refusal::NO_ROOM,
+        };
+    }
     let panels = encoding::byte_at(s, calls::PANELS_AT);
-    let own = encoding::byte_at(s, calls::OWN_AT);
-    let opened = replica::fresh_with_core(
+    let number = encoding::byte_at(s, calls::OWN_AT);
+    let opened = replica::fresh(
+        committed,
+        ordered,
+        executed,
+        stacked,
+        commits,
+        clock,
+        shop,
+        events,
         held,
         known,
         awaiting,
@@ -72,24 +147,24 @@ pub fn run(
         responses,
         settled,
         panels,
-        PanelNo(own),
+        PanelNo(number),
     );
-    let count = encoding::call_count(s);
-    let refusal = opened.refusal;
-    let core = opened.core;
     let counters = opened.counters;
-    if out.len() / answers::ANSWER_SIZE < count {
-        return RunResult {
-            room: false,
-            refusal,
-            ran: 0,
-            core,
-            counters,
-        };
-    }
-    let all = run_all(
-        core,
-        counters,
+    *own = opened.own.0;
+    *undos = counters.undos;
+    *executions = counters.executions;
+    run_all(
+        *shop,
+        opened.own,
+        committed,
+        ordered,
+        executed,
+        stacked,
+        commits,
+        clock,
+        events,
+        undos,
+        executions,
         held,
         known,
         awaiting,
@@ -106,21 +181,25 @@ pub fn run(
         count,
         out,
     );
-    let core = all.core;
-    let counters = all.counters;
-    RunResult {
-        room: true,
-        refusal,
+    ListResult {
         ran: count,
-        core,
-        counters,
+        refusal: opened.refusal,
     }
 }
 
 // Runs the calls of `s`, which are so many, on the panel and puts their answers at the front of `out`.
 fn run_all(
-    core: Core,
-    counters: Counters,
+    panels: u8,
+    own: PanelNo,
+    committed: &mut usize,
+    ordered: &mut usize,
+    executed: &mut usize,
+    stacked: &mut usize,
+    commits: &mut u32,
+    clock: &mut u32,
+    events: &mut u8,
+    undos: &mut u32,
+    executions: &mut u32,
     held: &mut [u64; 8],
     known: &mut [u64; 8],
     awaiting: &mut [u64; 8],
@@ -136,31 +215,35 @@ fn run_all(
     s: &[u8],
     count: usize,
     out: &mut [u8],
-) -> EntriesResult
-    requires { ⌜ Inv (packed core counters (now held) (now known) (now awaiting) (now clocks) (now operations) (now contexts) (now order)
-        (now stack) (now registers) (now saved) (now responses) (now settled)) ⌝ }
+)
+    requires { ⌜ Inv (wholeNow panels own committed ordered executed stacked commits clock events undos executions
+        held known awaiting clocks operations contexts order stack registers saved responses settled) ⌝ }
     requires { ⌜ count ≡ callCount (now s) ⌝ }
-    requires { ⌜ Room (now out) 0 (answersBytes (model (packed core counters (now held) (now known) (now awaiting) (now clocks)
-        (now operations) (now contexts) (now order) (now stack) (now registers) (now saved) (now responses) (now settled)))
-        (entriesOf (now s))) ⌝ }
-    ensures { λ r. ⌜ RanAll
-        (packed core counters (now (held .entry)) (now (known .entry)) (now (awaiting .entry)) (now (clocks .entry))
-        (now (operations .entry)) (now (contexts .entry)) (now (order .entry)) (now (stack .entry)) (now (registers .entry))
-        (now (saved .entry)) (now (responses .entry)) (now (settled .entry)))
+    requires { ⌜ Room (now out) 0 (answersBytes (model (wholeNow panels own committed ordered executed stacked commits clock events undos
+        executions held known awaiting clocks operations contexts order stack registers saved responses settled)) (entriesOf (now s))) ⌝ }
+    ensures { λ _. ⌜ RanAll
+        (wholeEntry panels own committed ordered executed stacked commits clock events undos executions
+        held known awaiting clocks operations contexts order stack registers saved responses settled)
         (now (s .entry)) (now (out .entry)) (now (out .exit))
-        (packed (r .core) (r .counters) (now (held .exit)) (now (known .exit)) (now (awaiting .exit)) (now (clocks .exit))
-        (now (operations .exit)) (now (contexts .exit)) (now (order .exit)) (now (stack .exit)) (now (registers .exit)) (now (saved .exit))
-        (now (responses .exit)) (now (settled .exit))) ⌝ }
+        (wholeExit panels own committed ordered executed stacked commits clock events undos executions
+        held known awaiting clocks operations contexts order stack registers saved responses settled) ⌝ }
 {
-    let mut panel = core;
-    let mut counted = counters;
     let mut at = calls::CALLS_AT;
     let mut behind = 0;
     let mut i = 0;
     while i < count {
-        let called = entry::call(
-            panel,
-            counted,
+        let answer = entry::call(
+            panels,
+            own,
+            committed,
+            ordered,
+            executed,
+            stacked,
+            commits,
+            clock,
+            events,
+            undos,
+            executions,
             held,
             known,
             awaiting,
@@ -176,14 +259,8 @@ fn run_all(
             s,
             at,
         );
-        panel = called.core;
-        counted = called.counters;
-        behind = encoding::put_answer(out, behind, called.answer);
+        behind = encoding::put_answer(out, behind, answer);
         at += calls::CALL_SIZE;
         i += 1;
-    }
-    EntriesResult {
-        core: panel,
-        counters: counted,
     }
 }

@@ -1,8 +1,7 @@
 // All due steps for callers that have the core by value: it comes back with the counts after them.
 use crate::DueSteps;
 use replica::Core;
-ghost use Rattle.steps.specs.WithCore.{CoreExecuteAsks};
-ghost use Rattle.due.specs.internal.WithCore.{CoreDueKept};
+ghost use Rattle.due.specs.internal.WithCore.{CoreExecuteAsks, CoreDueKept};
 
 // What that call returns: the core after it, and the steps done.
 pub struct DueResult {

@@ -26,34 +26,7 @@ fn print_idle(answers: [u8; CALLS * ANSWER_SIZE]) {
 // undo.
 fn answers_to(list: &[u8]) -> [u8; CALLS * ANSWER_SIZE] {
     let mut answers = [0u8; CALLS * ANSWER_SIZE];
-    let mut held = [0u64; 8];
-    let mut known = [0u64; 8];
-    let mut awaiting = [0u64; 8];
-    let mut clocks = [0u32; 512];
-    let mut operations = [0u64; 512];
-    let mut contexts = [0u64; 4096];
-    let mut order = [0u16; 512];
-    let mut stack = [0u16; 512];
-    let mut registers = [0u32; 64];
-    let mut saved = [0u64; 512];
-    let mut responses = [0u32; 512];
-    let mut settled = [0u64; 8];
-    driver::run(
-        list,
-        &mut answers,
-        &mut held,
-        &mut known,
-        &mut awaiting,
-        &mut clocks,
-        &mut operations,
-        &mut contexts,
-        &mut order,
-        &mut stack,
-        &mut registers,
-        &mut saved,
-        &mut responses,
-        &mut settled,
-    );
+    driver::run_list(list, &mut answers);
     answers
 }
 

@@ -24,9 +24,7 @@ use Rattle.creek.specs.Book.{invoke, deliver, planned}
 use Rattle.creek.specs.Replies.{refusedWith}
 use Rattle.counters.specs.Counted.{counted}
 use Rattle.creek.specs.internal.Sound.{Sound, mostRequests}
-use Rattle.replica.specs.declared.Core.{Core}
-use Rattle.replica.specs.declared.CallResult.{CallResult}
-use Rattle.replica.specs.State.{State, packed}
+use Rattle.replica.specs.State.{State}
 use Rattle.replica.specs.internal.Parts.{Asks, KeptBy, standing}
 use Rattle.replica.specs.internal.Model.{planOf, bookOf, model, Inv}
 
@@ -206,21 +204,3 @@ InvokeAsks own committed o l = Asks (invokeParts own committed o l)
 
 abbrev pub InvokeKept : PanelNo → ℕ → OwnLent → Lent → Invocation → OwnLent → Lent → Answer → Type 0
 InvokeKept own committed o l i o′ l′ a = KeptBy (invokeParts own committed o l) (invokeParts own committed o′ l′) (invoke i) a
-
--- ---- invoke, for a caller that has a panel's numbers by value
-
--- a panel with that core and those arrays
-abbrev pub coreParts : Core → (held known awaiting clocks operations contexts order : List ℕ) → State → State
-coreParts core held known awaiting clocks operations contexts order p =
-    packed core (p .counters) held known awaiting clocks operations contexts order (p .stack) (p .registers) (p .saved) (p .responses)
-    (p .settled .words)
-
-abbrev pub InvokeCoreAsks : Core → (held known awaiting clocks operations contexts order : List ℕ) → Type 0
-InvokeCoreAsks core held known awaiting clocks operations contexts order =
-    Asks (coreParts core held known awaiting clocks operations contexts order)
-
-abbrev pub InvokeCoreKept : Core → (held known awaiting clocks operations contexts order : List ℕ) → Invocation
-    → (held′ known′ awaiting′ clocks′ operations′ contexts′ order′ : List ℕ) → CallResult → Type 0
-InvokeCoreKept core held known awaiting clocks operations contexts order i held′ known′ awaiting′ clocks′ operations′ contexts′ order′ r =
-    KeptBy (coreParts core held known awaiting clocks operations contexts order)
-    (coreParts (r .core) held′ known′ awaiting′ clocks′ operations′ contexts′ order′) (invoke i) (r .answer)

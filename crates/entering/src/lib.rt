@@ -9,8 +9,6 @@ use numbers::Clock;
 use numbers::EventNo;
 use numbers::Number;
 use numbers::PanelNo;
-use replica::CallResult;
-use replica::Core;
 use request::Asked;
 use request::Request;
 use request::asks;
@@ -30,7 +28,7 @@ ghost use Rattle.creek.specs.Replies.{spread as spreadAnswer};
 ghost use Rattle.replica.specs.internal.Parts.{Asks};
 ghost use Rattle.entering.specs.Entering.{InvokeRefused, contextWithout, requestFor, judged, EnterAsks, EnterKept};
 ghost use Rattle.entering.specs.Entering.{lentNow, lentEntry, lentExit, ownNow, ownEntry, ownExit, deliverParts, heardAnswer};
-ghost use Rattle.entering.specs.Entering.{DeliverAsks, DeliverKept, InvokeAsks, InvokeKept, InvokeCoreAsks, InvokeCoreKept};
+ghost use Rattle.entering.specs.Entering.{DeliverAsks, DeliverKept, InvokeAsks, InvokeKept};
 
 // A request is made: it enters as one that is heard does, awaits a reply, and is to be spread to the other panels. One made with a lower
 // clock takes the reading of the last own request.
@@ -93,56 +91,6 @@ pub fn invoke(
     *events = event;
     *clock = raised.clock.0;
     spread(request_for(number, raised, context))
-}
-
-// The same for a caller that has a panel's numbers by value.
-pub fn invoke_with_core(
-    core: Core,
-    held: &mut [u64; 8],
-    known: &mut [u64; 8],
-    awaiting: &mut [u64; 8],
-    clocks: &mut [u32; 512],
-    operations: &mut [u64; 512],
-    contexts: &mut [u64; 4096],
-    order: &mut [u16; 512],
-    i: Invocation,
-) -> CallResult
-    requires { ⌜ InvokeCoreAsks core (now held) (now known) (now awaiting) (now clocks) (now operations) (now contexts) (now order) ⌝ }
-    ensures { λ r. ⌜ InvokeCoreKept core (now (held .entry)) (now (known .entry)) (now (awaiting .entry)) (now (clocks .entry))
-        (now (operations .entry)) (now (contexts .entry)) (now (order .entry)) i
-        (now (held .exit)) (now (known .exit)) (now (awaiting .exit)) (now (clocks .exit)) (now (operations .exit)) (now (contexts .exit))
-        (now (order .exit)) r ⌝ }
-{
-    let mut ordered = core.ordered;
-    let mut executed = core.executed;
-    let mut events = core.events;
-    let mut clock = core.clock.0;
-    let answer = invoke(
-        core.own,
-        core.committed,
-        &mut ordered,
-        &mut executed,
-        &mut clock,
-        &mut events,
-        held,
-        known,
-        awaiting,
-        clocks,
-        operations,
-        contexts,
-        order,
-        i,
-    );
-    let mut after = core;
-    after.ordered = ordered;
-    after.executed = executed;
-    after.events = events;
-    let reading = Clock(clock);
-    after.clock = reading;
-    CallResult {
-        core: after,
-        answer,
-    }
 }
 
 // The request of that slot and place of the order enters, and what is executed behind that place is to be rolled back.

@@ -1,4 +1,3 @@
 -- The definitions that the contracts cite.
 pub mod Lent
 pub mod Steps
-pub mod WithCore

@@ -3,8 +3,6 @@
 // A step is given the numbers that it reads by value and lent the counts that it changes and the arrays; it returns its reply. Taking a
 // request off the board and putting one on are functions of their own, which all due steps at once (crate `due`) call too. The steps are
 // not counted here: whoever has the counters counts those that a reply says were done.
-pub mod with_core;
-
 use creek::Answer;
 use creek::Reply;
 use creek::mark::NOBODY;
@@ -14,8 +12,6 @@ use creek::mark::WEAK;
 use numbers::Number;
 use request::asks;
 use request::refusal;
-pub use with_core::execute_with_core;
-pub use with_core::undo_with_core;
 ghost use mathlib.Core.Path.{_≡_};
 ghost use mathlib.Core.Bool.{true};
 ghost use Prim.Native.Nat.{_<_};

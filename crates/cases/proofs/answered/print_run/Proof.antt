@@ -8,17 +8,17 @@ use Rattle.cases.proofs.answered.print_run.Tie as tie
 page-requires : tie.Need-page-requires
 page-requires c κs = search needs
 
-slice-aggregate-run : tie.Need-slice-aggregate-run
-slice-aggregate-run c = search needs
+slice-aggregate-run-list : tie.Need-slice-aggregate-run-list
+slice-aggregate-run-list c = search needs
 
-run-requires : tie.Need-run-requires
-run-requires c κs = search needs
+run-list-requires : tie.Need-run-list-requires
+run-list-requires c κs = search needs
 
 slice-aggregate-print-answers : tie.Need-slice-aggregate-print-answers
 slice-aggregate-print-answers c = search needs
 
 print-answers-requires : tie.Need-print-answers-requires
-print-answers-requires c κs = let inside = ran-inside (c .before .before .run .ensures) in omega (arith, inside)
+print-answers-requires c κs = let inside = ran-inside (c .before .before .run-list .ensures) in omega (arith, inside)
 
 returns : tie.Need-returns
 returns c = search needs
@@ -28,8 +28,8 @@ print-run-spec =
     tie.close
     (tie.spec
     page-requires
-    slice-aggregate-run
-    run-requires
+    slice-aggregate-run-list
+    run-list-requires
     slice-aggregate-print-answers
     print-answers-requires
     returns)

@@ -1,6 +1,6 @@
 -- `due::run_due_with_core` meets its contract.
 use Rattle.replica.specs.State.{State}
-use Rattle.steps.specs.WithCore.{executeParts}
+use Rattle.due.specs.internal.WithCore.{executeParts}
 use Rattle.due.proofs.with_core.run_due_with_core.Statement.{statement}
 use Rattle.due.proofs.with_core.run_due_with_core.Tie as tie
 

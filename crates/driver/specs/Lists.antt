@@ -1,4 +1,4 @@
--- What a list of calls leads to, as a caller in another language sees it.
+-- What a list of calls leads to: its answers, how many were run, and a refusal.
 use Prim.Native.Nat.{ℕ}
 use mathlib.Core.Path.{_≡_}
 use mathlib.Core.Bool.{cond}
@@ -8,7 +8,7 @@ use lib.Seq.{sets}
 use Rattle.request.specs.Refusal.{noRoom}
 use Rattle.creek.specs.Calls.{freshRefusal}
 use Rattle.encoding.specs.Encoding.{panelsOf, ownOf, freshOf, tight, entriesRun, answersBytes}
-use Rattle.mizzencord_tools.specs.declared.ListResult.{ListResult}
+use Rattle.driver.specs.declared.ListResult.{ListResult}
 
 -- the calls of s were run where the lent bytes were out and are out′
 pub record Answered (s out out′ : List ℕ) (r : ListResult) : Type 0 where

@@ -1,2 +1,0 @@
--- The laws behind counted steps.
-pub mod CountingLaws

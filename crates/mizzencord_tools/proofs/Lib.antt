@@ -1,2 +1,0 @@
--- The laws of lists of calls.
-pub mod ListsLaws
