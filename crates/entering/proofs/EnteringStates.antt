@@ -1,9 +1,13 @@
--- What may enter the plan may enter the state.
+-- What may enter the plan may enter the state; and what enters by its slot enters under its number.
+use Prim.Native.Nat.{ℕ}
 use native.Mathlib.Omega.{arith}
-use mathlib.Core.Path.{sym, ap, _∙_}
+use mathlib.Core.Path.{_≡_, sym, ap, subst, _∙_}
+use mathlib.Core.List.{List}
 use lib.ListN.{length}
 use Rattle.lists.proofs.ListLaws.{one-zero}
+use Rattle.numbers.specs.declared.Clock.{Clock}
 use Rattle.numbers.specs.declared.Number.{Number}
+use Rattle.request.specs.declared.Asked.{Asked}
 use Rattle.request.specs.declared.Request.{Request}
 use Rattle.numbers.specs.Numbers.{mostPanels}
 use Rattle.numbers.specs.internal.Slots.{GoodNumber}
@@ -14,7 +18,8 @@ use Rattle.creek.proofs.AcceptanceLaws.{New}
 use Rattle.creek.proofs.EnteredLaws.{entered-length, entered-sound}
 use Rattle.replica.specs.State.{State}
 use Rattle.replica.specs.internal.Model.{planOf, Inv}
-use Rattle.entering.specs.Entering.{Enters}
+use Rattle.store.specs.Requests.{requestOf}
+use Rattle.entering.specs.Entering.{Enters, Lent, EnterAsks, EnterKept}
 use Rattle.replica.proofs.ModelLaws.{plan-sound, order-planned, length-order}
 use Rattle.replica.proofs.RequestLaws.{count-held}
 
@@ -43,3 +48,13 @@ module _ (p : State) (x : Request) (inv : Inv p) (new : New (planOf p) x) where
           ap length (order-planned p) ∙ length-order p inv,
         );
   }
+
+-- ---- a request under two names of its number
+
+module _ {l : Lent} {slot at : ℕ} {m n : Number} {clock : Clock} {asked : Asked} {words : List ℕ} (same : m ≡ n) where
+  pub asks-numbered : EnterAsks l slot at (requestOf n clock asked words) → EnterAsks l slot at (requestOf m clock asked words)
+  asks-numbered = subst (λ (k : Number). EnterAsks l slot at (requestOf k clock asked words)) (sym same)
+
+  pub kept-numbered : {l′ : Lent} → EnterKept l slot at (requestOf m clock asked words) l′
+      → EnterKept l slot at (requestOf n clock asked words) l′
+  kept-numbered {l′} = subst (λ (k : Number). EnterKept l slot at (requestOf k clock asked words) l′) same

@@ -19,10 +19,11 @@ ghost use mathlib.Core.Option.{some};
 ghost use lib.ListN.{length};
 ghost use lib.Seq.{slice};
 ghost use Rattle.numbers.specs.Numbers.{mostPanels};
+ghost use Rattle.numbers.specs.internal.Slots.{numberOf};
 ghost use Rattle.sets.specs.Sets.{setOf};
 ghost use Rattle.request.specs.Request.{badContext};
-ghost use Rattle.slots.specs.Slots.{Part};
-ghost use Rattle.store.specs.Requests.{requestOf};
+ghost use Rattle.slots.specs.Slots.{IsSlot, Part};
+ghost use Rattle.store.specs.Requests.{requestOf, requestAt, Long};
 ghost use Rattle.creek.specs.Plan.{knownWith, atLeast, heldRefusal};
 ghost use Rattle.creek.specs.Replies.{spread as spreadAnswer};
 ghost use Rattle.replica.specs.internal.Parts.{Asks};
@@ -82,12 +83,11 @@ pub fn invoke(
         order,
         slot,
         at,
-        number,
         raised.clock,
         raised.asked,
         &context.words,
     );
-    store::join(awaiting, number);
+    store::join_at(awaiting, slot);
     *events = event;
     *clock = raised.clock.0;
     spread(request_for(number, raised, context))
@@ -105,20 +105,19 @@ fn enter<'a>(
     order: &mut [u16; 512],
     slot: u16,
     at: usize,
-    number: Number,
     clock: Clock,
     asked: Asked,
     words: &'a [u64; 8],
 )
     requires { ⌜ EnterAsks (lentNow ordered executed held known clocks operations contexts order) slot at
-        (requestOf number clock asked (now words)) ⌝ }
+        (requestOf (numberOf slot) clock asked (now words)) ⌝ }
     ensures { λ _. ⌜ EnterKept (lentEntry ordered executed held known clocks operations contexts order) slot at
-        (requestOf number clock asked (now (words .entry))) (lentExit ordered executed held known clocks operations contexts order) ⌝ }
+        (requestOf (numberOf slot) clock asked (now (words .entry))) (lentExit ordered executed held known clocks operations contexts order) ⌝ }
 {
     let n = *ordered;
     slots::insert_at(order, n, at, slot);
-    store::join(held, number);
-    know(known, asked.strong, number);
+    store::join_at(held, slot);
+    know(known, asked.strong, slot);
     store::put_request(clocks, operations, contexts, slot, clock, asked, words);
     let grown = n + 1;
     *ordered = grown;
@@ -226,16 +225,8 @@ pub fn deliver<'a>(
         return refusal;
     }
     let slot = numbers::slot_of(number);
-    if store::member(held, number) {
-        let there = store::request_at(clocks, operations, contexts, slot);
-        let again = *words;
-        let x = Request {
-            context: Context { words: again },
-            asked,
-            clock,
-            number,
-        };
-        return held_refusal(there, x);
+    if store::member_at(held, slot) {
+        return held_refusal(clocks, operations, contexts, slot, clock, asked, words);
     }
     let n = *ordered;
     let at = slots::place(clocks, order, committed, n, clock.0, slot);
@@ -250,7 +241,6 @@ pub fn deliver<'a>(
         order,
         slot,
         at,
-        number,
         clock,
         asked,
         words,
@@ -324,7 +314,7 @@ fn judge<'a>(
     refusal::ACCEPTED
 }
 
-// The test behind refusal 21 in a shop of `panels` panels.
+// The test behind refusal 21 in a shop of `panels` panels: a weak request names nobody.
 fn bad_context<'a>(
     panels: u8,
     number: Number,
@@ -335,27 +325,39 @@ fn bad_context<'a>(
     requires { ⌜ length (now words) ≡ mostPanels ⌝ }
     ensures { λ r. ⌜ r ≡ badContext panels (requestOf number clock asked (now (words .entry))) ⌝ }
 {
-    let some = store::names_from(words, 0);
+    if !asked.strong {
+        return store::names_from(words, 0);
+    }
     let itself = store::member(words, number);
     let outside = store::names_from(words, panels);
-    (!asked.strong & some) | itself | outside
+    itself | outside
 }
 
-// The refusal of x where y is held under its number.
-fn held_refusal(y: Request, x: Request) -> u8
-    ensures { λ w. ⌜ w ≡ heldRefusal (some y) x ⌝ }
+// The refusal of a request whose number, that of the slot, is held.
+fn held_refusal<'a>(
+    clocks: &'a [u32; 512],
+    operations: &'a [u64; 512],
+    contexts: &'a [u64; 4096],
+    slot: u16,
+    clock: Clock,
+    asked: Asked,
+    words: &'a [u64; 8],
+) -> u8
+    requires { ⌜ IsSlot slot × Long (now clocks) (now operations) (now contexts) × (length (now words) ≡ mostPanels) ⌝ }
+    ensures { λ w. ⌜ w ≡ heldRefusal (some (requestAt (now (clocks .entry)) (now (operations .entry)) (now (contexts .entry)) slot))
+        (requestOf (numberOf slot) clock asked (now (words .entry))) ⌝ }
 {
-    if request::same(y, x) {
+    if store::same_at(clocks, operations, contexts, slot, clock, asked, words) {
         return refusal::HELD_ALREADY;
     }
     refusal::NUMBER_CLASH
 }
 
-// Puts the number n into the known set, where a request of that strength is known as soon as it enters.
-fn know(known: &mut [u64; 8], strong: bool, n: Number)
-    ensures { λ _. ⌜ setOf (now (known .exit)) ≡ knownWith (setOf (now (known .entry))) strong n ⌝ }
+// Puts the number of a slot into the known set, where a request of that strength is known as soon as it enters.
+fn know(known: &mut [u64; 8], strong: bool, slot: u16)
+    ensures { λ _. ⌜ setOf (now (known .exit)) ≡ knownWith (setOf (now (known .entry))) strong (numberOf slot) ⌝ }
 {
     if !strong {
-        store::join(known, n);
+        store::join_at(known, slot);
     }
 }

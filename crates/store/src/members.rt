@@ -70,11 +70,11 @@ pub fn join(words: &mut [u64; 8], n: Number)
 pub fn join_at(words: &mut [u64; 8], slot: u16)
     ensures { λ _. ⌜ setOf (now (words .exit)) ≡ joined (setOf (now (words .entry))) (numberOf slot) ⌝ }
 {
-    let panel = (slot / EVENTS % PANELS) as usize;
-    let bit = (slot % EVENTS) as u64;
-    let mask = 1u64 << bit;
-    let word = words[panel];
-    words[panel] = word | mask;
+    let at = (slot / EVENTS % PANELS) as usize;
+    let place = (slot % EVENTS) as u64;
+    let mask = 1u64 << place;
+    let word = words[at];
+    words[at] = word | mask;
 }
 
 // Takes n out of the set.

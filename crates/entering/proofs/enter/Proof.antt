@@ -1,5 +1,6 @@
 -- `entering::enter` meets its contract.
 use native.Mathlib.Omega.{arith}
+use Rattle.numbers.specs.internal.Slots.{numberOf}
 use Rattle.request.specs.declared.Request.{Request}
 use Rattle.store.specs.Requests.{requestOf}
 use Rattle.replica.specs.State.{State}
@@ -27,7 +28,7 @@ lent a =
     (a .args .contexts) (a .args .order)) (a .pre .panel)
 
 abbrev heard : tie.Start → Request
-heard a = requestOf (a .args .number) (a .args .clock) (a .args .asked) (a .args .words .now)
+heard a = requestOf (numberOf (a .args .slot)) (a .args .clock) (a .args .asked) (a .args .words .now)
 
 -- ---- what the function needs
 
@@ -36,8 +37,8 @@ insert-at-requires c κs =
     let a = c .before .before in
     insertion-asks (lent a) (heard a) (a .pre .invariant) (a .pre .enters) _ _ (a .pre .its-slot) (a .pre .its-place)
 
-join-requires : tie.Need-join-requires
-join-requires c κs = search needs
+join-at-requires : tie.Need-join-at-requires
+join-at-requires c κs = search needs
 
 know-requires : tie.Need-know-requires
 know-requires c κs = search needs
@@ -64,7 +65,7 @@ returns c =
     record {
       kept = λ p inv enters place.
           entered-by _ (heard a) inv enters _ _ (a .pre .its-slot) place _ (inserted knows .insert-at .ensures)
-          (stored .put-request .ensures) (knows .before .before .join .ensures) (knows .know .ensures) (c .lower .ensures);
+          (stored .put-request .ensures) (knows .before .before .join-at .ensures) (knows .know .ensures) (c .lower .ensures);
     }
 
 pub enter-spec : {M : Type 1} → statement M
@@ -72,7 +73,7 @@ enter-spec =
     tie.close
     (tie.spec
     insert-at-requires
-    join-requires
+    join-at-requires
     know-requires
     put-request-requires
     add-grown

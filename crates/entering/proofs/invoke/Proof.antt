@@ -3,11 +3,15 @@ use native.Mathlib.Omega.{arith}
 use mathlib.Core.Path.{_≡_, refl, ap, _∙_}
 use lib.ListN.{length}
 use Rattle.numbers.specs.Numbers.{mostPanels}
+use Rattle.numbers.specs.internal.Slots.{numberOf}
+use Rattle.numbers.proofs.NumberLaws.{number-of-slot}
+use Rattle.sets.specs.Sets.{setOf, join}
 use Rattle.request.specs.declared.Request.{Request}
 use Rattle.creek.specs.Replies.{spread}
 use Rattle.replica.specs.State.{State}
 use Rattle.replica.specs.internal.Model.{Inv}
 use Rattle.entering.specs.Entering.{Enters, lentNow, ownNow, invokeParts}
+use Rattle.entering.proofs.EnteringStates.{asks-numbered, kept-numbered}
 use Rattle.entering.proofs.InvokingLaws.{asRequest, kept-asked, events-left, next-place-asks, behind-next, asked-enters, kept-made}
 use borrow.Author.Needs.{needs}
 use Rattle.entering.proofs.invoke.Statement.{statement}
@@ -53,6 +57,15 @@ enters c p inv =
     let a = start (judged raised) in
     asked-enters (lent a p) (a .args .i) inv _ (judged raised .invoke-refusal .ensures) (raised .before .before .if1 .left) _
     (raised .at-least .ensures) _ (slot .slot-of .ensures) _ (at .place .ensures) _ (c .context-for .ensures)
+
+-- the number is that of the slot
+number-is : (c : tie.After-context-for) → let slot = slotted (placed c) in
+    numberOf (slot .slot-of .result) ≡ asRequest (lent (start (judged (slot .before))) (start (judged (slot .before)) .pre .panel))
+    (slot .before .at-least .result) (c .context-for .result) .number
+number-is c =
+    let slot = slotted (placed c) in
+    let a = start (judged (slot .before)) in
+    ap numberOf (slot .slot-of .ensures) ∙ number-of-slot _ (enters c (a .pre .panel) (a .pre .invariant) .number)
 
 -- the type of the context's array says how many words there are
 count : (c : tie.After-context-for) → length (c .context-for .result .words) ≡ mostPanels
@@ -113,17 +126,17 @@ enter-requires c κs =
     let at = placed context in
     let slot = slotted at in
     let a = start (judged (slot .before)) in
-    record {
+    asks-numbered (number-is context) (record {
       panel = lent a (a .pre .panel);
       invariant = a .pre .invariant;
       enters = enters context (a .pre .panel) (a .pre .invariant);
       its-slot = slot .slot-of .ensures;
       its-place = at .place .ensures;
       words = count context;
-    }
+    })
 
-join-requires : tie.Need-join-requires
-join-requires c κs = search needs
+join-at-requires : tie.Need-join-at-requires
+join-at-requires c κs = search needs
 
 request-for-requires : tie.Need-request-for-requires
 request-for-requires c κs = search needs
@@ -144,8 +157,9 @@ returns-2 c =
       kept = λ p inv.
           kept-made (lent a p) (a .args .i) inv _ (judged raised .invoke-refusal .ensures) (raised .before .before .if1 .left) _
           (raised .at-least .ensures) _ (slot .slot-of .ensures) _ (at .place .ensures) _ (context .context-for .ensures)
-          (asRequest (lent a p) (raised .at-least .result) (context .context-for .result)) refl _ _ (waits .join .ensures)
-          (entered .enter .ensures .kept (lent a p) inv (enters context p inv) (at .place .ensures) _ _ _) _
+          (asRequest (lent a p) (raised .at-least .result) (context .context-for .result)) refl _ _
+          (waits .join-at .ensures ∙ ap (join (setOf (a .args .awaiting .now))) (number-is context))
+          (kept-numbered (number-is context) (entered .enter .ensures) .kept (lent a p) inv (enters context p inv) (at .place .ensures) _ _ _) _
           (c .spread .ensures ∙ ap (λ (x : Request). spread x) (c .before .request-for .ensures));
     }
 
@@ -162,7 +176,7 @@ invoke-spec =
     place-requires
     context-for-requires
     enter-requires
-    join-requires
+    join-at-requires
     request-for-requires
     spread-requires
     returns-2)

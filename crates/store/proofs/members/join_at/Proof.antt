@@ -15,11 +15,11 @@ use Rattle.numbers.proofs.NumberLaws.{number-good, number-of-good}
 use Rattle.store.proofs.members.join_at.Statement.{statement}
 use Rattle.store.proofs.members.join_at.Tie as tie
 
-cast-panel : tie.Need-cast-panel
-cast-panel c = search needs
+cast-at : tie.Need-cast-at
+cast-at c = search needs
 
-cast-bit : tie.Need-cast-bit
-cast-bit c = search needs
+cast-place : tie.Need-cast-place
+cast-place c = search needs
 
 shl-mask : tie.Need-shl-mask
 shl-mask c = search needs
@@ -52,8 +52,8 @@ pub join-at-spec : {M : Type 1} → statement M
 join-at-spec =
     tie.close
     (tie.spec
-    cast-panel
-    cast-bit
+    cast-at
+    cast-place
     shl-mask
     mul-word
     element-copy-out-word
