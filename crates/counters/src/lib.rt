@@ -1,8 +1,7 @@
 // The step counters: one small record of the panel's own, which the counting of steps is lent and updates there.
 //
-// `count_undos` and `count_executions` are lent the counters and told how many steps were done. `undos_counted` and
-// `executions_counted` are given the counters and return them counted. Whoever counts shows that the counter stays within `mostSteps` of
-// `specs/`, so no addition overflows.
+// `count_undos` and `count_executions` are lent the counters and told how many steps were done. Whoever counts shows that the counter
+// stays within `mostSteps` of `specs/`, so no addition overflows.
 ghost use mathlib.Core.Path.{_≡_};
 ghost use Prim.Native.Nat.{_+_, _≤_};
 ghost use Rattle.counters.specs.Counted.{mostSteps, undosCounted, executionsCounted};
@@ -28,28 +27,4 @@ pub fn count_executions(c: &mut Counters, steps: u32)
     ensures { λ _. ⌜ now (c .exit) ≡ executionsCounted (now (c .entry)) steps ⌝ }
 {
     c.executions = c.executions + steps;
-}
-
-// The counters with so many more undos.
-pub fn undos_counted(c: Counters, steps: u32) -> Counters
-    requires { ⌜ c .undos + steps ≤ mostSteps ⌝ }
-    ensures { λ d. ⌜ d ≡ undosCounted c steps ⌝ }
-{
-    let undos = c.undos + steps;
-    Counters {
-        undos,
-        executions: c.executions,
-    }
-}
-
-// The counters with so many more executions.
-pub fn executions_counted(c: Counters, steps: u32) -> Counters
-    requires { ⌜ c .executions + steps ≤ mostSteps ⌝ }
-    ensures { λ d. ⌜ d ≡ executionsCounted c steps ⌝ }
-{
-    let executions = c.executions + steps;
-    Counters {
-        undos: c.undos,
-        executions,
-    }
 }

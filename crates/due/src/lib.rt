@@ -1,12 +1,9 @@
 // All due steps in one call: what is to be rolled back is undone, then what is to do is executed.
-pub mod with_core;
-
 use creek::Reply;
 use creek::mark::NOBODY;
 use numbers::Number;
 use request::asks;
 use request::refusal;
-pub use with_core::run_due_with_core;
 ghost use mathlib.Core.Path.{_≡_};
 ghost use Rattle.steps.specs.Lent.{undoNow, undoEntry, undoExit, executeNow, executeEntry, executeExit};
 ghost use Rattle.steps.specs.Steps.{UndoAsks, ExecuteAsks};

@@ -9,14 +9,11 @@ use creek::Answer;
 use creek::Reply;
 use numbers::PanelNo;
 pub use receiving::receive;
-use replica::CallResult;
-use replica::Core;
 use wire::Message;
 use wire::Subject;
 ghost use Rattle.creek.specs.Replies.{replyAnswer};
 ghost use Rattle.wire.specs.Message.{said};
 ghost use Rattle.intake.specs.internal.Parts.{lentNow, lentEntry, lentExit, TakeAsks, Taken};
-ghost use Rattle.intake.specs.internal.Parts.{TakeCoreAsks, TakenByCore};
 
 // What the message at a place led to: the answer, and the message's bytes, 0 where none could be read.
 #[repr(C)]
@@ -97,63 +94,5 @@ pub fn take<'a>(
                 x.number,
             )
         }
-    }
-}
-
-// The same for a caller that has a panel's numbers by value.
-pub fn take_with_core<'a>(
-    core: Core,
-    held: &mut [u64; 8],
-    known: &mut [u64; 8],
-    awaiting: &mut [u64; 8],
-    clocks: &mut [u32; 512],
-    operations: &mut [u64; 512],
-    contexts: &mut [u64; 4096],
-    order: &mut [u16; 512],
-    stack: &'a [u16; 512],
-    responses: &'a [u32; 512],
-    settled: &mut [u64; 8],
-    m: Message,
-) -> CallResult
-    requires { ⌜ TakeCoreAsks core (now held) (now known) (now awaiting) (now clocks) (now operations) (now contexts) (now order)
-        (now stack) (now responses) (now settled) ⌝ }
-    ensures { λ r. ⌜ TakenByCore core (now (held .entry)) (now (known .entry)) (now (awaiting .entry)) (now (clocks .entry))
-        (now (operations .entry)) (now (contexts .entry)) (now (order .entry)) (now (stack .entry)) (now (responses .entry))
-        (now (settled .entry)) (said m)
-        (now (held .exit)) (now (known .exit)) (now (awaiting .exit)) (now (clocks .exit)) (now (operations .exit))
-        (now (contexts .exit)) (now (order .exit)) (now (settled .exit)) r ⌝ }
-{
-    let mut committed = core.committed;
-    let mut ordered = core.ordered;
-    let mut executed = core.executed;
-    let mut commits = core.commits;
-    let reply = take(
-        core.panels,
-        core.own,
-        &mut committed,
-        &mut ordered,
-        &mut executed,
-        &mut commits,
-        held,
-        known,
-        awaiting,
-        clocks,
-        operations,
-        contexts,
-        order,
-        stack,
-        responses,
-        settled,
-        m,
-    );
-    let mut after = core;
-    after.committed = committed;
-    after.ordered = ordered;
-    after.executed = executed;
-    after.commits = commits;
-    let answer = replica::answer_of(reply);
-    CallResult {
-        core: after,
-        answer,
     }
 }

@@ -15,9 +15,7 @@ use Rattle.parts.specs.Widths.{weakWidths, contextWidths, size, decode}
 use Rattle.creek.specs.declared.Answer.{Answer}
 use Rattle.creek.specs.Book.{deliver}
 use Rattle.creek.specs.Replies.{refusedWith}
-use Rattle.replica.specs.declared.Core.{Core}
-use Rattle.replica.specs.declared.CallResult.{CallResult}
-use Rattle.replica.specs.State.{State, packed}
+use Rattle.replica.specs.State.{State}
 use Rattle.replica.specs.internal.Model.{Inv}
 use Rattle.replica.specs.internal.Parts.{Asks, KeptBy}
 use Rattle.wire.specs.Message.{BusMessage}
@@ -132,21 +130,3 @@ pub record ReceiveKept (panels : ℕ) (own : PanelNo) (l : Lent) (o : Outcome) (
 -- nothing was taken in, by that refusal
 abbrev pub nothing : ℕ → Receipt
 nothing w = record { answer = refusedWith w noNumber; taken = 0 }
-
--- ---- for a caller that has a panel's numbers by value
-
--- a panel with that core and those arrays
-abbrev pub coreParts : Core → (held known awaiting clocks operations contexts order stack responses settled : List ℕ) → State → State
-coreParts core held known awaiting clocks operations contexts order stack responses settled p =
-    packed core (p .counters) held known awaiting clocks operations contexts order stack (p .registers) (p .saved) responses settled
-
-abbrev pub TakeCoreAsks : Core → (held known awaiting clocks operations contexts order stack responses settled : List ℕ) → Type 0
-TakeCoreAsks core held known awaiting clocks operations contexts order stack responses settled =
-    Asks (coreParts core held known awaiting clocks operations contexts order stack responses settled)
-
-abbrev pub TakenByCore : Core → (held known awaiting clocks operations contexts order stack responses settled : List ℕ) → BusMessage
-    → (held′ known′ awaiting′ clocks′ operations′ contexts′ order′ settled′ : List ℕ) → CallResult → Type 0
-TakenByCore core held known awaiting clocks operations contexts order stack responses settled m held′ known′ awaiting′ clocks′ operations′
-    contexts′ order′ settled′ r =
-    KeptBy (coreParts core held known awaiting clocks operations contexts order stack responses settled)
-    (coreParts (r .core) held′ known′ awaiting′ clocks′ operations′ contexts′ order′ stack responses settled′) (callOf m) (r .answer)
