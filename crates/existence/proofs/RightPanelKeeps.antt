@@ -24,6 +24,7 @@ use Rattle.history.specs.Worthless.{PanelCall, single, runDue, receive, next, K
 use Rattle.existence.specs.Memory.{memoryOf}
 use Rattle.existence.specs.RightPanel.{rightFresh, rightCall, rightRunDue, rightReceived, rightRegister, rightPlace, rightPanel}
 use Rattle.existence.specs.Existence.{CallFits, PanelCallFits}
+use Rattle.existence.proofs.FirstMemory.{fresh-memory}
 use Rattle.existence.proofs.MemoryLaws.{Storable, memory-model, memory-inv}
 use Rattle.existence.proofs.StorableLaws.{step-storable, due-storable, fresh-storable}
 
@@ -33,6 +34,7 @@ pub right-fresh : (panels own : ℕ) → Fresh panels own (rightFresh panels own
 unfolding rightFresh
 right-fresh panels own = record {
   refusal = refl;
+  memory = fresh-memory panels own;
   state = memory-model (fresh panels own) (fresh-storable panels own);
   invariant = memory-inv (fresh panels own) (fresh-storable panels own);
 }
