@@ -2,6 +2,7 @@
 -- that a settlement gives is the response of the request's last carry-out.
 use Prim.Native.Nat.{ℕ, _+_, _≤_}
 use native.Mathlib.Omega.{arith}
+use borrow.Author.Tests.{le-leb}
 use mathlib.Core.Path.{_≡_, refl, sym, ap, _∙_}
 use mathlib.Core.Bool.{Bool, true, false, _&&_, cond}
 use mathlib.Core.List.{List, [], _∷_, _++_, append-assoc, append-nil}
@@ -30,7 +31,7 @@ use Rattle.creek.specs.Calls.{Replica, fresh, isExecute, accept, step, a
 use Rattle.creek.specs.History.{run}
 use Rattle.creek.specs.internal.Sound.{Sound}
 use Rattle.creek.specs.Agreement.{Extends}
-use Rattle.creek.specs.StableReply.{repliedTo, carriesOut, lastResponse, StableReply, LastCarryOut}
+use Rattle.creek.specs.StableReply.{repliedTo, carriesOut, lastResponse, SettledWith, StableReply, LastCarryOut}
 use Rattle.creek.proofs.CallLaws.{by-outcome}
 use Rattle.lists.proofs.ListLaws.{one-true, one-false, count-append, passes-count}
 use Rattle.creek.proofs.AcceptanceLaws.{commits}
@@ -208,10 +209,17 @@ pub sound-stable-reply : (r : Replica) (c : Call) → Sound r → StableReply r 
 sound-stable-reply r c sound = record { stands = λ mark further. lasts (stands r c sound mark) further }
   where
     lasts : Stands (repliedTo c (answer r c)) (answer r c .response) (step r c .book) → (further : List Call)
-        → answer r c .response ≡ responseIn (repliedTo c (answer r c)) (run (step r c) further .book .plan .committed)
+        → SettledWith (repliedTo c (answer r c)) (answer r c .response) (run (step r c) further .book .plan .committed)
     lasts s further =
+        let n = repliedTo c (answer r c) in
+        let first = step r c .book .plan .committed in
         let grown = run-extends (step r c) further in
-        s .is ∙ sym (response-start _ (step r c .book .plan .committed) (grown .behind) (s .there)) ∙ ap (responseIn _) (sym (grown .is))
+        record {
+          settled =
+              le-leb 1 (count (hasNumber n) (run (step r c) further .book .plan .committed))
+              (omega (arith, s .there, count-append (hasNumber n) first (grown .behind), ap (count (hasNumber n)) (grown .is)));
+          response = s .is ∙ sym (response-start n first (grown .behind) (s .there)) ∙ ap (responseIn n) (sym (grown .is));
+        }
 
 pub stable-reply : (panels own : ℕ) (calls : List Call) (c : Call) → StableReply (run (fresh panels own) calls) c
 stable-reply panels own calls c = sound-stable-reply (run (fresh panels own) calls) c (reached-sound panels own calls)

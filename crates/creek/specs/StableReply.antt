@@ -2,11 +2,14 @@
 -- and `last-carry-out` in `proofs/StableReply`.
 use Prim.Native.Nat.{ℕ}
 use mathlib.Core.Path.{_≡_}
-use mathlib.Core.Bool.{Bool, _&&_, cond}
+use mathlib.Core.Bool.{Bool, true, _&&_, cond}
 use mathlib.Core.List.{List, [], _∷_}
+use Rattle.lists.specs.Lists.{somePasses}
 use Rattle.numbers.specs.declared.Number.{Number}
 use Rattle.numbers.specs.Numbers.{sameNumber}
+use Rattle.request.specs.declared.Request.{Request}
 use Rattle.creek.specs.declared.Answer.{Answer}
+use Rattle.creek.specs.Plan.{hasNumber}
 use Rattle.creek.specs.Book.{Call, invoke, deliver, commit, undo, execute, isAccepted}
 use Rattle.creek.specs.Replies.{stableMark, responseIn}
 use Rattle.creek.specs.Calls.{Replica, fresh, isExecute, step, answer}
@@ -29,10 +32,15 @@ unfoldable pub lastResponse : Number → ℕ → Replica → List Call → ℕ
 lastResponse n v r [] = v
 lastResponse n v r (c ∷ cs) = lastResponse n (cond (carriesOut r c n) (answer r c .response) v) (step r c) cs
 
--- a stable reply's response is the request's response in one replay of the committed list, as it then stands and ever after
+-- the request of number n is one of those committed, and v is its response in one replay of them
+pub record SettledWith (n : Number) (v : ℕ) (committed : List Request) : Type 0 where
+  pub settled : somePasses (hasNumber n) committed ≡ true
+  pub response : v ≡ responseIn n committed
+
+-- a stable reply is about a committed request and has its response in one replay of the committed list, as it then stands and ever after
 pub record StableReply (r : Replica) (c : Call) : Type 0 where
   pub stands : answer r c .mark ≡ stableMark → (further : List Call)
-      → answer r c .response ≡ responseIn (repliedTo c (answer r c)) (run (step r c) further .book .plan .committed)
+      → SettledWith (repliedTo c (answer r c)) (answer r c .response) (run (step r c) further .book .plan .committed)
 
 -- after those calls, a settlement's stable reply has the response of the request's last carry-out
 pub record LastCarryOut (panels own : ℕ) (calls : List Call) (n : Number) : Type 0 where

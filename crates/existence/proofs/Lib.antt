@@ -3,6 +3,7 @@ pub mod TableLaws
 pub mod WidthLaws
 pub mod ReadBackLaws
 pub mod SavedLaws
+pub mod FirstMemory
 pub mod MemoryLaws
 pub mod StorableLaws
 pub mod RightPanelKeeps

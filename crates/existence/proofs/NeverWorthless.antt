@@ -1,10 +1,17 @@
 -- A panel that keeps its contracts on all calls that fit is never worthless, so neither is the right panel.
 use native.Mathlib.Omega.{arith}
+use mathlib.Core.Path.{refl}
 use mathlib.Core.List.{List, [], _∷_, _++_}
 use Rattle.lists.specs.Places.{All}
 use Rattle.lists.proofs.AllLaws.{all-append}
 use Rattle.creek.specs.Book.{execute}
-use Rattle.history.specs.Worthless.{PanelCall, single, runDue, singly, Panel, Keeps, firstValue, secondValue, setting}
+use Rattle.parts.specs.Integers.{integerAt}
+use Rattle.parts.specs.Widths.{decode}
+use Rattle.wire.specs.Layout.{kindWith, layout, widthsWith, leastSize, mostSize}
+use Rattle.wire.specs.Message.{messageFrom}
+use Rattle.wire.specs.Reader.{lengthAt, kindAt, runAt, fieldsAt, spareSet, refusalAs, readAs, readAt}
+use Rattle.intake.specs.Intake.{callOf}
+use Rattle.history.specs.Worthless.{PanelCall, single, runDue, receive, singly, Panel, Keeps, firstValue, secondValue, setting, heardMessage}
 use Rattle.history.proofs.Worthless.{no-worthless-panel}
 use Rattle.existence.specs.RightPanel.{rightPanel}
 use Rattle.existence.specs.Existence.{PanelCallFits, KeepsFitting, NeverWorthless}
@@ -16,6 +23,12 @@ afterTwoSets more = single (setting firstValue) ∷ single (setting secondValue)
 
 kept-two-sets : (panel : Panel) → KeepsFitting panel → (more : List PanelCall) → All PanelCallFits more → Keeps panel 1 0 (afterTwoSets more)
 kept-two-sets panel keeps more fit = keeps 1 0 (afterTwoSets more) (omega arith, (omega arith, fit))
+
+-- document 01's second message fits
+message-fits : PanelCallFits (receive heardMessage 0)
+unfolding integerAt kindWith layout widthsWith leastSize mostSize decode messageFrom lengthAt kindAt runAt fieldsAt spareSet refusalAs
+    readAs readAt callOf
+message-fits = (record { words = refl; amount = omega arith }, tt)
 
 pub never-worthless : (panel : Panel) → KeepsFitting panel → NeverWorthless panel
 never-worthless panel keeps =
@@ -33,6 +46,7 @@ never-worthless panel keeps =
       invents-due-counts = λ panels own calls fit invented.
           breaks .invents-due-counts panels own calls invented (keeps panels own calls fit)
           (keeps panels own (calls ++ runDue ∷ []) (all-append PanelCallFits calls (runDue ∷ []) fit (tt, tt)));
+      receives-nothing = λ nothing. breaks .receives-nothing nothing (keeps 2 0 (receive heardMessage 0 ∷ []) (message-fits, tt));
     }
 
 pub right-panel-never-worthless : NeverWorthless rightPanel

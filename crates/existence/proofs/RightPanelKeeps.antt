@@ -17,10 +17,14 @@ use Rattle.replica.specs.State.{State}
 use Rattle.replica.specs.Promises.{Fresh, Kept}
 use Rattle.replica.specs.internal.Model.{bookOf, model, Inv}
 use Rattle.due.specs.Due.{RunDue}
-use Rattle.history.specs.Worthless.{PanelCall, single, runDue, next, KeepsCalls, Keeps}
+use Rattle.wire.specs.Reader.{Outcome, message, end, refused as unread, answered, readAt}
+use Rattle.intake.specs.Intake.{callOf, answerTo, received, isTakenIn, Received}
+use Rattle.history.specs.Received.{callsIn}
+use Rattle.history.specs.Worthless.{PanelCall, single, runDue, receive, next, KeepsCalls, Keeps}
 use Rattle.existence.specs.Memory.{memoryOf}
-use Rattle.existence.specs.RightPanel.{rightFresh, rightCall, rightRunDue, rightRegister, rightPlace, rightPanel}
+use Rattle.existence.specs.RightPanel.{rightFresh, rightCall, rightRunDue, rightReceived, rightRegister, rightPlace, rightPanel}
 use Rattle.existence.specs.Existence.{CallFits, PanelCallFits}
+use Rattle.existence.proofs.FirstMemory.{fresh-memory}
 use Rattle.existence.proofs.MemoryLaws.{Storable, memory-model, memory-inv}
 use Rattle.existence.proofs.StorableLaws.{step-storable, due-storable, fresh-storable}
 
@@ -30,6 +34,7 @@ pub right-fresh : (panels own : ℕ) → Fresh panels own (rightFresh panels own
 unfolding rightFresh
 right-fresh panels own = record {
   refusal = refl;
+  memory = fresh-memory panels own;
   state = memory-model (fresh panels own) (fresh-storable panels own);
   invariant = memory-inv (fresh panels own) (fresh-storable panels own);
 }
@@ -81,6 +86,22 @@ module _ (p : State) (s : Storable (model p)) where
     invariant = memory-inv (idled (model p)) after-due;
   }
 
+  -- what stands at a place, received
+  pub right-received : (o : Outcome) → All CallFits (callsIn o) → Inv p
+      → Received p o (rightReceived p o .receipt) (rightReceived p o .state)
+  unfolding rightReceived answered answerTo received isTakenIn
+  right-received (message m n) fit inv =
+      let kept = right-call (callOf m) (fit .0) inv in
+      record { taken = refl; answer = kept .answer; state = kept .state; unchanged = kept .unchanged; invariant = kept .invariant }
+  right-received end fit inv = record { taken = refl; answer = refl; state = refl; unchanged = λ none. refl; invariant = inv }
+  right-received (unread w) fit inv = record { taken = refl; answer = refl; state = refl; unchanged = λ none. refl; invariant = inv }
+
+  pub right-received-storable : (o : Outcome) → All CallFits (callsIn o) → Storable (model (rightReceived p o .state))
+  unfolding rightReceived
+  right-received-storable (message m n) fit = rw (right-call-model (callOf m) (fit .0)) (after-call (callOf m) (fit .0))
+  right-received-storable end fit = s
+  right-received-storable (unread w) fit = s
+
 -- ---- each list of calls
 
 right-fresh-storable : (panels own : ℕ) → Storable (model (rightFresh panels own .state))
@@ -89,6 +110,7 @@ right-fresh-storable panels own = rw (right-fresh panels own .state) (fresh-stor
 right-next-storable : (p : State) (c : PanelCall) → PanelCallFits c → Storable (model p) → Storable (model (next rightPanel p c))
 right-next-storable p (single c) fit s = rw (right-call-model p s c fit) (step-storable (model p) c fit s)
 right-next-storable p runDue fit s = rw (right-due-model p s) (due-storable (owedShown (model p)) (model p) s)
+right-next-storable p (receive bytes at) fit s = right-received-storable p s (readAt bytes at) fit
 
 right-keeps-calls : (p : State) (calls : List PanelCall) → All PanelCallFits calls → Storable (model p) → KeepsCalls rightPanel p calls
 right-keeps-calls p [] fit s = tt
@@ -96,6 +118,10 @@ right-keeps-calls p (single c ∷ cs) fit s =
     (right-call p s c (fit .0), right-keeps-calls (rightCall p c .state) cs (fit .1) (right-next-storable p (single c) (fit .0) s))
 right-keeps-calls p (runDue ∷ cs) fit s =
     ((λ inv. right-run-due p s), right-keeps-calls (rightRunDue p .state) cs (fit .1) (right-next-storable p runDue (fit .0) s))
+right-keeps-calls p (receive bytes at ∷ cs) fit s = (
+  right-received p s (readAt bytes at) (fit .0),
+  right-keeps-calls (rightReceived p (readAt bytes at) .state) cs (fit .1) (right-received-storable p s (readAt bytes at) (fit .0)),
+)
 
 pub right-panel-keeps : (panels own : ℕ) (calls : List PanelCall) → All PanelCallFits calls → Keeps rightPanel panels own calls
 unfolding rightRegister rightPlace

@@ -1,9 +1,9 @@
--- Laws of tables: how long one is, what stands at a place, and the words of one context in the table of all of them.
+-- Laws of tables: how long one is, what stands at a place, one of zeros, and the words of one context in the table of all of them.
 use Prim.Native.Nat.{ℕ, zero, suc, _+_, _*_, _/_, _%_, _<_}
 use native.Mathlib.Omega.{arith}
 use mathlib.Core.Path.{_≡_, refl, sym, ap, _∙_}
-use mathlib.Core.List.{List}
-use lib.ListN.{length, getD}
+use mathlib.Core.List.{List, _∷_}
+use lib.ListN.{length, getD, replicate}
 use lib.Seq.{slice, length-slice, getD-drop, getD-take, ext-getD}
 use Rattle.numbers.specs.Numbers.{mostPanels}
 use Rattle.slots.specs.Slots.{IsSlot}
@@ -20,6 +20,14 @@ unfolding table
 table-at zero f k h = absurd (omega arith)
 table-at (suc n) f zero h = refl
 table-at (suc n) f (suc k) h = table-at n (λ j. f (suc j)) k (omega arith)
+
+pub table-zeros : (n : ℕ) (f : ℕ → ℕ) → ((k : ℕ) → f k ≡ 0) → table n f ≡ replicate n 0
+unfolding table
+table-zeros zero f h = refl
+table-zeros (suc n) f h =
+    let first = h 0 in
+    let others = table-zeros n (λ k. f (suc k)) (λ k. h (suc k)) in
+    λ i. first i ∷ others i
 
 -- of lists of so many words by slot, one after the other
 module _ (words : ℕ → List ℕ) where

@@ -13,9 +13,11 @@ use Rattle.sets.specs.Sets.{setOf}
 use Rattle.registers.specs.Effect.{range}
 use Rattle.creek.specs.Book.{Call, invoke, deliver, commit, undo, execute}
 use Rattle.creek.specs.examples.Notation.{read, strong}
+use Rattle.wire.specs.Reader.{readAt}
 use Rattle.history.specs.PanelHistory.{PanelHistory}
-use Rattle.history.specs.Worthless.{PanelCall, single, runDue, singly, Panel, Keeps, RefusesEach, RepliesAlways, LeavesAlone, ExecutesAll}
-use Rattle.history.specs.Worthless.{InventsCounters, LeavesDue, RepliesDueAlways, InventsDueCounts, firstValue, setting}
+use Rattle.history.specs.Received.{callsIn}
+use Rattle.history.specs.Worthless.{PanelCall, single, runDue, receive, singly, Panel, Keeps, RefusesEach, RepliesAlways, LeavesAlone, ExecutesAll}
+use Rattle.history.specs.Worthless.{InventsCounters, LeavesDue, RepliesDueAlways, InventsDueCounts, ReceivesNothing, firstValue, setting}
 
 -- ---- calls that fit the code's types
 
@@ -35,6 +37,7 @@ CallFits execute = Unit {0}
 abbrev pub PanelCallFits : PanelCall → Type 0
 PanelCallFits (single c) = CallFits c
 PanelCallFits runDue = Unit {0}
+PanelCallFits (receive s at) = All CallFits (callsIn (readAt s at))
 
 -- ---- a panel that keeps its contracts on each of them
 
@@ -57,6 +60,7 @@ pub record NeverWorthless (panel : Panel) : Type 0 where
   pub leaves-due : LeavesDue panel → ⊥
   pub replies-due-always : (response : ℕ) → RepliesDueAlways panel response → ⊥
   pub invents-due-counts : (panels own : ℕ) (calls : List PanelCall) → All PanelCallFits calls → InventsDueCounts panel panels own calls → ⊥
+  pub receives-nothing : ReceivesNothing panel → ⊥
 
 -- ---- that the calls fit is needed
 

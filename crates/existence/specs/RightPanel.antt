@@ -3,7 +3,9 @@
 use Prim.Native.Nat.{ℕ}
 use mathlib.Core.Bool.{cond}
 use lib.ListN.{length}
+use Rattle.numbers.specs.Numbers.{noNumber}
 use Rattle.creek.specs.Book.{Call, isAccepted}
+use Rattle.creek.specs.Replies.{done, refusedWith}
 use Rattle.creek.specs.Calls.{freshRefusal, fresh, step, answer}
 use Rattle.creek.specs.History.{idled}
 use Rattle.creek.specs.Showing.{registerRefusal, registerShown, requestsShown, commitsShown, undosShown, executionsShown, owedShown}
@@ -13,6 +15,9 @@ use Rattle.replica.specs.internal.Model.{bookOf, model}
 use Rattle.replica.specs.declared.RegisterValue.{RegisterValue}
 use Rattle.replica.specs.declared.PlacedRequest.{PlacedRequest}
 use Rattle.due.specs.Due.{DueOutcome, padded, repliesOwed}
+use Rattle.wire.specs.Reader.{Outcome, message, end, refused, readAt}
+use Rattle.intake.specs.Intake.{callOf}
+use Rattle.history.specs.Received.{Reception}
 use Rattle.history.specs.Worthless.{Panel}
 use Rattle.existence.specs.Memory.{memoryOf}
 
@@ -34,6 +39,15 @@ rightRunDue p = record {
   state = memoryOf (idled (model p));
 }
 
+-- what stands at a place, received: a message as its call, with its bytes taken; what cannot be read leaves the memory as it was
+unfoldable pub rightReceived : State → Outcome → Reception
+rightReceived p (message m n) = record {
+  receipt = record { answer = rightCall p (callOf m) .answer; taken = n };
+  state = rightCall p (callOf m) .state;
+}
+rightReceived p end = record { receipt = record { answer = done; taken = 0 }; state = p }
+rightReceived p (refused w) = record { receipt = record { answer = refusedWith w noNumber; taken = 0 }; state = p }
+
 -- a register, shown
 unfoldable pub rightRegister : State → ℕ → RegisterValue
 rightRegister p k = record { refusal = registerRefusal k; value = registerShown (model p) k }
@@ -48,6 +62,7 @@ rightPanel = record {
   fresh = rightFresh;
   call = rightCall;
   run-due = rightRunDue;
+  receive = λ p s at. rightReceived p (readAt s at);
   register = rightRegister;
   requests = λ p. requestsShown (model p);
   commits = λ p. commitsShown (model p);

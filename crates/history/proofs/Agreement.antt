@@ -1,6 +1,6 @@
 -- Two panels side by side, of the panels themselves (`specs/Agreement`): the theorems `panel-grows` and `panels-side-by-side`.
 use Prim.Native.Nat.{ℕ}
-use mathlib.Core.Path.{_≡_, refl, sym, ap, _∙_}
+use mathlib.Core.Path.{_≡_, refl, sym, ap, _∙_, subst}
 use mathlib.Core.List.{List, []}
 use Rattle.request.specs.declared.Request.{Request}
 use Rattle.registers.specs.Replay.{replay}
@@ -8,7 +8,7 @@ use Rattle.creek.specs.Plan.{order}
 use Rattle.creek.specs.Execution.{operations}
 use Rattle.creek.specs.Replies.{responseIn}
 use Rattle.creek.specs.Calls.{Replica}
-use Rattle.creek.specs.StableReply.{repliedTo}
+use Rattle.creek.specs.StableReply.{repliedTo, SettledWith}
 use Rattle.creek.specs.Agreement.{AcceptedSame, Idle, SideBySide}
 use Rattle.creek.proofs.Agreement.{grows-at-end, side-by-side}
 use Rattle.due.specs.Due.{DueOutcome, RunDue}
@@ -79,8 +79,9 @@ module _ {panels own own′ : ℕ} (p : PanelHistory panels own) (q : PanelHisto
         registers-replayed p r ran ∙ ap (λ (l : List Request). replay (operations l)) (alike .standing-order)
         ∙ sym (registers-replayed q s ran′);
     told-stable = λ place mark.
-        stable-single p place mark [] [] (p .last) stay
-        ∙ ap (responseIn (repliedTo (callAt (p .calls) place) (answerAt (p .answers) place))) (alike .committed);
+        subst
+        (SettledWith (repliedTo (callAt (p .calls) place) (answerAt (p .answers) place)) (answerAt (p .answers) place .response))
+        (alike .committed) (stable-single p place mark [] [] (p .last) stay);
   }
 
 pub panels-side-by-side : {panels own own′ : ℕ} (p : PanelHistory panels own) (q : PanelHistory panels own′) → PanelsSideBySide p q

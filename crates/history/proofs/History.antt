@@ -28,7 +28,7 @@ use Rattle.creek.specs.declared.Reply.{Reply}
 use Rattle.replica.specs.Promises.{Fresh}
 use Rattle.replica.specs.internal.Model.{model, Inv}
 use Rattle.replica.proofs.ModelLaws.{registers-are}
-use Rattle.history.specs.History.{openedBook, stepsDue, answersDue, Leads, stay, call, all-due}
+use Rattle.history.specs.History.{openedBook, stepsDue, answersDue, Leads, stay, call, all-due, in-one}
 use Rattle.history.specs.History.{repliesIn, DueStepsDone, AllDueDone, PanelDemand3}
 
 -- ---- all due steps at once, and the single steps
@@ -44,6 +44,7 @@ pub leads-inv : {p q : State} {cs : List Call} {answers : List Answer} → Inv p
 leads-inv inv stay = inv
 leads-inv inv (call r kept rest) = leads-inv (kept inv .invariant) rest
 leads-inv inv (all-due r ran rest) = leads-inv (ran inv .invariant) rest
+leads-inv inv (in-one r ran rest) = leads-inv (ran inv .invariant) rest
 
 -- the replica that the last state stands for is the one that `creek` runs to
 pub leads-model : {p q : State} {cs : List Call} {answers : List Answer} → Inv p → Leads p cs answers q → model q ≡ run (model p) cs
@@ -54,6 +55,8 @@ leads-model inv (call {cs = cs} r kept rest) =
 leads-model inv (all-due {p = p} {cs = cs} r ran rest) =
     leads-model (ran inv .invariant) rest ∙ ap (λ (x : Replica). run x cs) (due-model p r (ran inv))
     ∙ sym (run-append (model p) (stepsDue p) cs)
+leads-model inv (in-one {p = p} {done = done} {cs = cs} r ran rest) =
+    leads-model (ran inv .invariant) rest ∙ ap (λ (x : Replica). run x cs) (ran inv .state) ∙ sym (run-append (model p) done cs)
 
 -- the answers are the ones that `creek` gives
 pub leads-answers : {p q : State} {cs : List Call} {answers : List Answer} → Inv p → Leads p cs answers q → answers ≡ answersTo (model p) cs
@@ -66,6 +69,9 @@ leads-answers inv (call {cs = cs} r kept rest) =
 leads-answers inv (all-due {p = p} {cs = cs} r ran rest) =
     let others = leads-answers (ran inv .invariant) rest ∙ ap (λ (x : Replica). answersTo x cs) (due-model p r (ran inv)) in
     ap (λ (l : List Answer). answersDue p ++ l) others ∙ sym (answers-append (model p) (stepsDue p) cs)
+leads-answers inv (in-one {p = p} {done = done} {cs = cs} r ran rest) =
+    let others = leads-answers (ran inv .invariant) rest ∙ ap (λ (x : Replica). answersTo x cs) (ran inv .state) in
+    ap (λ (l : List Answer). answersTo (model p) done ++ l) others ∙ sym (answers-append (model p) done cs)
 
 -- ---- due steps
 

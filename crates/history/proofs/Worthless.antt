@@ -8,13 +8,14 @@ use lib.ListN.{length, getD, List·getD-append}
 use Rattle.numbers.specs.Numbers.{sameNumber, badNumber}
 use Rattle.request.specs.Operations.{badOperation}
 use Rattle.request.specs.Asked.{badAsked}
-use Rattle.sets.specs.Sets.{bit, member, join, leave}
+use Rattle.sets.specs.Sets.{allZero, isEmpty, namesFrom, bit, member, join, leave}
 use Rattle.request.specs.Order.{before}
+use Rattle.request.specs.Request.{badContext}
 use Rattle.request.specs.Refusal as refused
 use Rattle.registers.specs.Effect.{offBoard, exec, response}
 use Rattle.registers.specs.Replay.{replayOn, replay}
 use Rattle.creek.specs.declared.Answer.{Answer}
-use Rattle.creek.specs.Plan.{lastEvent, lastClock, entered, atLeast, made, invokeRefusal}
+use Rattle.creek.specs.Plan.{lastEvent, lastClock, entered, atLeast, made, invokeRefusal, deliverRefusal}
 use Rattle.creek.specs.Execution.{operations, registers, adjusted, executedNext, executeRefusal}
 use Rattle.creek.specs.Book.{Call, execute, refusal, accepted, noted}
 use Rattle.creek.specs.Replies.{executionMark, executionReply, acceptedAnswer, answerOf, acceptedAwaiting}
@@ -26,12 +27,21 @@ use Rattle.creek.specs.declared.Reply.{Reply}
 use Rattle.replica.specs.Promises.{Fresh}
 use Rattle.replica.specs.internal.Model.{model, Inv}
 use Rattle.due.specs.Due.{noReply, RunDue}
-use Rattle.history.specs.History.{Leads, stay, call, all-due, repliesIn, AllDueDone, PanelDemand3}
-use Rattle.history.specs.Worthless.{PanelCall, single, runDue, singly, Panel, next, after, standFor, answersFrom, KeepsCall}
+use Rattle.parts.specs.Integers.{integerAt}
+use Rattle.parts.specs.Widths.{decode}
+use Rattle.wire.specs.Layout.{kindWith, layout, widthsWith, leastSize, mostSize}
+use Rattle.wire.specs.Message.{messageFrom}
+use Rattle.wire.specs.Reader.{lengthAt, kindAt, runAt, fieldsAt, spareSet, refusalAs, readAs, readAt}
+use Rattle.intake.specs.Intake.{callOf}
+use Rattle.history.specs.History.{Leads, stay, call, all-due, in-one, repliesIn, AllDueDone, PanelDemand3}
+use Rattle.history.specs.Received.{callsIn}
+use Rattle.history.specs.Worthless.{PanelCall, single, runDue, receive, singly, Panel, next, after, standFor, answersFrom, KeepsCall}
 use Rattle.history.specs.Worthless.{KeepsCalls, reached, Keeps, RefusesEach, RepliesAlways, LeavesAlone, ExecutesAll}
-use Rattle.history.specs.Worthless.{InventsCounters, LeavesDue, RepliesDueAlways, InventsDueCounts, NotWorthless}
+use Rattle.history.specs.Worthless.{InventsCounters, LeavesDue, RepliesDueAlways, InventsDueCounts, ReceivesNothing}
+use Rattle.history.specs.Worthless.{heardMessage, NotWorthless}
 use Rattle.history.specs.Worthless.{firstValue, secondValue, setting, twoSets, twoSetsDue}
 use Rattle.history.proofs.History.{panel-inv, panel-replica, panel-demand-3}
+use Rattle.history.proofs.Received.{received-in-one}
 
 -- ---- by computation
 
@@ -89,6 +99,17 @@ computed = record {
   second-response = refl;
 }
 
+-- document 01's second message is heard by panel 0 of 2
+record MessageHeard : Type 0 where
+  before : requestsShown (fresh 2 0) ≡ 0
+  after : requestsShown (run (fresh 2 0) (callsIn (readAt heardMessage 0) ++ [])) ≡ 1
+
+message-heard : MessageHeard
+unfolding sameNumber badNumber badOperation badAsked allZero isEmpty namesFrom bit member join before badContext entered deliverRefusal
+    adjusted refusal accepted badShop fresh accept step run integerAt kindWith layout widthsWith leastSize mostSize decode messageFrom
+    lengthAt kindAt runAt fieldsAt spareSet refusalAs readAs readAt callOf
+message-heard = record { before = refl; after = refl }
+
 -- two lists of four agree in their last two
 last-two : {a b c d s t u v : ℕ} → a ∷ b ∷ c ∷ d ∷ [] ≡ s ∷ t ∷ u ∷ v ∷ [] → (c ≡ u) × (d ≡ v)
 last-two e = (cc e, cc e)
@@ -101,6 +122,9 @@ module _ (panel : Panel) where
   kept-leads p [] kept = stay
   kept-leads p (single c ∷ cs) kept = call (panel .call p c) (kept .0) (kept-leads (panel .call p c .state) cs (kept .1))
   kept-leads p (runDue ∷ cs) kept = all-due (panel .run-due p) (kept .0) (kept-leads (panel .run-due p .state) cs (kept .1))
+  kept-leads p (receive s at ∷ cs) kept =
+      let r = panel .receive p s at in
+      in-one (r .state) (λ inv. received-in-one p (readAt s at) r (kept .0 inv) .done) (kept-leads (r .state) cs (kept .1))
 
   -- where all due steps at once are called last
   after-last : (p : State) (cs : List PanelCall) → after panel p (cs ++ runDue ∷ []) ≡ panel .run-due (after panel p cs) .state
@@ -259,6 +283,19 @@ module _ (panel : Panel) where
         omega (arith, later .executions j, ap (λ (p : State). executionsShown (model p)) last, done .executions, k .executions i),
       )
 
+  -- ---- the one of messages received
+
+  receives-nothing : ReceivesNothing panel → Keeps panel 2 0 (receive heardMessage 0 ∷ []) → ⊥
+  receives-nothing nothing k =
+      omega (
+        arith,
+        ap (λ (p : State). requestsShown (model p)) (nothing 2 0 [] heardMessage 0),
+        ap requestsShown (k .fresh .state),
+        ap requestsShown (replica 2 0 (receive heardMessage 0 ∷ []) (k .fresh) (k .kept)),
+        message-heard .before,
+        message-heard .after,
+      )
+
 -- ---- the theorem
 
 pub no-worthless-panel : (panel : Panel) → NotWorthless panel
@@ -271,4 +308,5 @@ no-worthless-panel panel = record {
   leaves-due = leaves-due panel;
   replies-due-always = replies-due-always panel;
   invents-due-counts = invents-due-counts panel;
+  receives-nothing = receives-nothing panel;
 }

@@ -8,8 +8,8 @@ use Rattle.request.specs.declared.Request.{Request}
 use Rattle.creek.specs.declared.Answer.{Answer}
 use Rattle.creek.specs.Plan.{order}
 use Rattle.creek.specs.Book.{Call, undo}
-use Rattle.creek.specs.Replies.{stableMark, done, responseIn}
-use Rattle.creek.specs.StableReply.{repliedTo}
+use Rattle.creek.specs.Replies.{stableMark, done}
+use Rattle.creek.specs.StableReply.{repliedTo, SettledWith}
 use Rattle.creek.specs.Agreement.{Extends, AcceptedSame, Idle}
 use Rattle.replica.specs.State.{State}
 use Rattle.due.specs.Due.{DueOutcome, noReply, RunDue}
@@ -45,18 +45,19 @@ pub record PanelGrows {panels own : ℕ} (p : PanelHistory panels own) : Type 0 
   pub grows : (further : List Call) (more : List Answer) (later : State) → Leads (p .last) further more later
       → Extends (settledList (p .last)) (settledList later)
 
--- each stable reply that it gave is that request's response in one replay of the settled list, then and whatever is called on it later
+-- each stable reply that it gave is about a request of the settled list and is its response in one replay of that list, then and whatever
+-- is called on it later
 pub record PanelStableReplies {panels own : ℕ} (p : PanelHistory panels own) : Type 0 where
   -- of a carry-out or a settlement: every place in the list of answers that has mark 3, where all due steps at once stand for the answers
   -- of the single steps
   pub single : (place : ℕ) → answerAt (p .answers) place .mark ≡ stableMark
       → (further : List Call) (more : List Answer) (later : State) → Leads (p .last) further more later
-      → answerAt (p .answers) place .response
-      ≡ responseIn (repliedTo (callAt (p .calls) place) (answerAt (p .answers) place)) (settledList later)
+      → SettledWith (repliedTo (callAt (p .calls) place) (answerAt (p .answers) place)) (answerAt (p .answers) place .response)
+      (settledList later)
   -- of all due steps at once: every place in the replies that they gave that has mark 3
   pub all-due : (r : DueOutcome) → RunDue (p .last) r → (place : ℕ) → replyAt r place .mark ≡ stableMark
       → (further : List Call) (more : List Answer) (later : State) → Leads (r .state) further more later
-      → replyAt r place .response ≡ responseIn (replyAt r place .number) (settledList later)
+      → SettledWith (replyAt r place .number) (replyAt r place .response) (settledList later)
 
 -- ---- two panels of one shop
 
@@ -75,10 +76,10 @@ module _ {panels own own′ : ℕ} (p : PanelHistory panels own) (q : PanelHisto
         → RegisterShown (p .last) k shown → RegisterShown (q .last) k shown′ → shown ≡ shown′
     -- after all due steps on each, the registers
     pub registers-after : (r s : DueOutcome) → RunDue (p .last) r → RunDue (q .last) s → r .state .registers ≡ s .state .registers
-    -- what the one was told as stable is that request's response in one replay of the other's settled list
+    -- what the one was told as stable is about a request that the other has settled, and is its response in one replay of that settled list
     pub told-stable : (place : ℕ) → answerAt (p .answers) place .mark ≡ stableMark
-        → answerAt (p .answers) place .response
-        ≡ responseIn (repliedTo (callAt (p .calls) place) (answerAt (p .answers) place)) (settledList (q .last))
+        → SettledWith (repliedTo (callAt (p .calls) place) (answerAt (p .answers) place)) (answerAt (p .answers) place .response)
+        (settledList (q .last))
 
   -- if they accepted the same requests, field for field, and the same settlements in the same order
   pub record PanelsSideBySide : Type 0 where

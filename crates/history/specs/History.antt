@@ -1,6 +1,6 @@
--- A list of calls on a panel, all due steps at once among them: the states and answers that it leads through, each call keeping its
--- contract; what the shift book says of the same calls; and demand 3 as a statement about the panel's last state. Every list of calls
--- keeps it: `panel-demand-3` in `proofs/History`.
+-- A list of calls on a panel, all due steps at once and other calls done in one among them: the states and answers that it leads through,
+-- each call keeping its contract; what the shift book says of the same calls; and demand 3 as a statement about the panel's last state.
+-- Every list of calls keeps it: `panel-demand-3` in `proofs/History`.
 use Rattle.counters.specs.Counted.{mostSteps}
 use Prim.Native.Nat.{ℕ, _+_, _-_, _≤_}
 use mathlib.Core.Path.{_≡_}
@@ -16,7 +16,7 @@ use Rattle.creek.specs.declared.Answer.{Answer}
 use Rattle.creek.specs.Execution.{board, operations, owed, isIdle}
 use Rattle.creek.specs.Book.{Call, Book, notedAll}
 use Rattle.creek.specs.Calls.{fresh, bringsRequest, isCommit, isUndo, isExecute}
-use Rattle.creek.specs.History.{answersTo, refusals, acceptedIn, dueCalls, refusalsIn}
+use Rattle.creek.specs.History.{run, answersTo, refusals, acceptedIn, dueCalls, refusalsIn}
 use Rattle.creek.specs.Showing.{requestsShown, commitsShown, undosShown, executionsShown, owedShown}
 use Rattle.creek.specs.Demand.{mostUndos}
 use Rattle.replica.specs.State.{State, Called}
@@ -42,15 +42,22 @@ stepsDue p = dueCalls (owedShown (model p)) (model p .book)
 abbrev pub answersDue : State → List Answer
 answersDue p = answersTo (model p) (stepsDue p)
 
+-- those calls were done on p in one, as `creek` runs them one after the other, and q is the state then
+pub record DoneInOne (p : State) (done : List Call) (q : State) : Type 0 where
+  pub state : model q ≡ run (model p) done
+  pub invariant : Inv q
+
 -- from p those calls lead to q with those answers: each of the five calls, and all due steps at once wherever they are called, get the
 -- state that the last one returned and keep their contract, which supposes the invariant; all due steps at once stand in the lists for
--- the single steps and their answers
+-- the single steps and their answers, and so do calls done in one, as by a message received (`specs/Received`), for these calls
 pub data Leads : State → List Call → List Answer → State → Type 0 where
   stay : {p : State} → Leads p [] [] p
   call : {p q : State} {c : Call} {cs : List Call} {answers : List Answer} (r : Called)
       → (Inv p → Kept p c r) → Leads (r .state) cs answers q → Leads p (c ∷ cs) (r .answer ∷ answers) q
   all-due : {p q : State} {cs : List Call} {answers : List Answer} (r : DueOutcome)
       → (Inv p → RunDue p r) → Leads (r .state) cs answers q → Leads p (stepsDue p ++ cs) (answersDue p ++ answers) q
+  in-one : {p q : State} {done cs : List Call} {answers : List Answer} (r : State)
+      → (Inv p → DoneInOne p done r) → Leads r cs answers q → Leads p (done ++ cs) (answersTo (model p) done ++ answers) q
 
 -- number, response and mark of each answer that has a mark
 abbrev pub repliesIn : List Answer → List Reply

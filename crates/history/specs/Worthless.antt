@@ -1,6 +1,6 @@
 -- The worthless panels of document 01's condition (c), over the records that the calls' contracts cite: what a panel is to its callers,
--- when it keeps its contracts, the five ways to be worthless and three more of all due steps at once, and the statement that each of them
--- breaks a contract (`no-worthless-panel` in `proofs/Worthless`).
+-- when it keeps its contracts, the five ways to be worthless, three more of all due steps at once and one of messages received, and the
+-- statement that each of them breaks a contract (`no-worthless-panel` in `proofs/Worthless`).
 use Prim.{Unit}
 use Prim.Native.Nat.{ℕ, _+_, _≤_, _<_}
 use mathlib.Core.Path.{_≡_}
@@ -14,6 +14,7 @@ use Rattle.creek.specs.declared.Answer.{Answer}
 use Rattle.creek.specs.Execution.{operations}
 use Rattle.creek.specs.Book.{Call, execute}
 use Rattle.creek.specs.Calls.{isUndo, isExecute}
+use Rattle.creek.specs.History.{answersTo}
 use Rattle.creek.specs.Showing.{requestsShown, commitsShown, undosShown, executionsShown, owedShown}
 use Rattle.creek.specs.examples.Notation.{setTo, make}
 use Rattle.replica.specs.State.{State, Opened, Called}
@@ -23,27 +24,33 @@ use Rattle.replica.specs.declared.PlacedRequest.{PlacedRequest}
 use Rattle.replica.specs.Promises.{Fresh, Kept}
 use Rattle.replica.specs.internal.Model.{model, Inv}
 use Rattle.replica.specs.Shown.{RegisterShown, PlaceShown}
+use Rattle.wire.specs.Reader.{readAt}
+use Rattle.intake.specs.Intake.{Received}
 use Rattle.history.specs.History.{stepsDue, answersDue, acceptedCalls}
+use Rattle.history.specs.Received.{callsIn, Reception}
 
--- what may be called on a panel: one of the five calls, or all due steps at once
+-- what may be called on a panel: one of the five calls, all due steps at once, or to receive what stands at a place of a run of bytes
 pub data PanelCall : Type 0 where
   single : Call → PanelCall
   runDue : PanelCall
+  receive : List ℕ → ℕ → PanelCall
 
--- the calls of `creek` that it stands for on p: all due steps at once for the single steps
+-- the calls of `creek` that it stands for on p: all due steps at once for the single steps, a message received for its call
 abbrev pub standsFor : State → PanelCall → List Call
 standsFor p (single c) = c ∷ []
 standsFor p runDue = stepsDue p
+standsFor p (receive s at) = callsIn (readAt s at)
 
 -- those calls, each a single one
 abbrev pub singly : List Call → List PanelCall
 singly calls = map single calls
 
--- a panel as its callers see it: any functions for fresh, for the five calls, for all due steps at once, and for the showing calls
+-- a panel as its callers see it: any functions for fresh, the five calls, all due steps at once, receiving, and the showing calls
 pub record Panel : Type 0 where
   pub fresh : ℕ → ℕ → Opened
   pub call : State → Call → Called
   pub run-due : State → DueOutcome
+  pub receive : State → List ℕ → ℕ → Reception
   pub register : State → ℕ → RegisterValue
   pub requests : State → ℕ
   pub commits : State → ℕ
@@ -59,6 +66,7 @@ module _ (panel : Panel) where
   abbrev pub next : State → PanelCall → State
   next p (single c) = panel .call p c .state
   next p runDue = panel .run-due p .state
+  next p (receive s at) = panel .receive p s at .state
 
   -- the state after those calls, each on what the last one returned
   abbrev pub after : State → List PanelCall → State
@@ -70,10 +78,11 @@ module _ (panel : Panel) where
   standFor p [] = []
   standFor p (c ∷ cs) = standsFor p c ++ standFor (next p c) cs
 
-  -- the answer to a call, and for all due steps at once those of the single steps
+  -- the answer to a call, for all due steps at once those of the single steps, and for a message received that of its call
   abbrev pub answerTo : State → PanelCall → List Answer
   answerTo p (single c) = panel .call p c .answer ∷ []
   answerTo p runDue = answersDue p
+  answerTo p (receive s at) = answersTo (model p) (callsIn (readAt s at))
 
   -- the answers to those calls
   abbrev pub answersFrom : State → List PanelCall → List Answer
@@ -84,6 +93,7 @@ module _ (panel : Panel) where
   abbrev pub KeepsCall : State → PanelCall → Type 0
   KeepsCall p (single c) = Inv p → Kept p c (panel .call p c)
   KeepsCall p runDue = Inv p → RunDue p (panel .run-due p)
+  KeepsCall p (receive s at) = Inv p → Received p (readAt s at) (panel .receive p s at .receipt) (panel .receive p s at .state)
 
   -- each of those calls keeps its contract
   abbrev pub KeepsCalls : State → List PanelCall → Type 0
@@ -164,6 +174,13 @@ module _ (panel : Panel) where
       × (panel .executions q ≡ panel .executions p + panel .run-due p .executions)
       → ⊥
 
+  -- ---- one more, of messages received
+
+  -- what it receives does nothing: whatever its receipt says, the state is left alone
+  abbrev pub ReceivesNothing : Type 0
+  ReceivesNothing = (panels own : ℕ) (calls : List Call) (s : List ℕ) (at : ℕ)
+      → let p = reached panels own (singly calls) in panel .receive p s at .state ≡ p
+
 -- ---- each breaks a contract
 
 abbrev pub firstValue : ℕ
@@ -184,8 +201,13 @@ twoSets more = setting firstValue ∷ setting secondValue ∷ more
 abbrev pub twoSetsDue : List PanelCall
 twoSetsDue = singly (twoSets []) ++ runDue ∷ []
 
+-- document 01's second message: the weak request 1/1 with clock 5, add 3 to register 4
+abbrev pub heardMessage : List ℕ
+heardMessage = 18 ∷ 0 ∷ 1 ∷ 0 ∷ 1 ∷ 1 ∷ 5 ∷ 0 ∷ 0 ∷ 0 ∷ 3 ∷ 4 ∷ 0 ∷ 0 ∷ 3 ∷ 0 ∷ 0 ∷ 0 ∷ []
+
 -- a panel that is worthless in one of these ways breaks a contract: one that invents counters wherever it shows or returns an invented
--- one, each of the others within the calls named here, in a shop of one panel
+-- one, one that receives nothing where panel 0 of 2 receives that message, each of the others within the calls named here, in a shop of
+-- one panel
 pub record NotWorthless (panel : Panel) : Type 0 where
   pub refuses-each : RefusesEach panel → Keeps panel 1 0 (singly (twoSets [])) → ⊥
   pub replies-always : (response : ℕ) → RepliesAlways panel response → Keeps panel 1 0 (singly (twoSets (execute ∷ execute ∷ []))) → ⊥
@@ -197,3 +219,4 @@ pub record NotWorthless (panel : Panel) : Type 0 where
   pub replies-due-always : (response : ℕ) → RepliesDueAlways panel response → Keeps panel 1 0 twoSetsDue → ⊥
   pub invents-due-counts : (panels own : ℕ) (calls : List PanelCall) → InventsDueCounts panel panels own calls
       → Keeps panel panels own calls → Keeps panel panels own (calls ++ runDue ∷ []) → ⊥
+  pub receives-nothing : ReceivesNothing panel → Keeps panel 2 0 (receive heardMessage 0 ∷ []) → ⊥

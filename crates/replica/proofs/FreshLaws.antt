@@ -9,7 +9,7 @@ use borrow.Author.Tests.{le-leb, lt-ltb, leb-true, ltb-true, not-false}
 use Rattle.lists.specs.Lists.{one}
 use Rattle.lists.proofs.BoolLaws.{both, both-true, neither, neither-true, true-not-false}
 use Rattle.numbers.specs.declared.PanelNo.{PanelNo}
-use Rattle.numbers.specs.Numbers.{mostPanels}
+use Rattle.numbers.specs.Numbers.{panelNo, mostPanels}
 use Rattle.request.specs.Refusal as refused
 use Rattle.sets.specs.Sets.{emptySet}
 use Rattle.sets.proofs.SetLaws.{member-empty}
@@ -22,8 +22,7 @@ use Rattle.slots.proofs.SlotLaws.{in-words-member}
 use Rattle.store.specs.Requests.{mostWords}
 use Rattle.creek.specs.internal.Sound.{mostRequests}
 use Rattle.creek.proofs.SoundLaws.{fresh-sound}
-use Rattle.replica.specs.State.{State}
-use Rattle.replica.proofs.States.{emptyState}
+use Rattle.replica.specs.State.{State, firstMemory}
 use Rattle.replica.specs.Promises.{Fresh}
 use Rattle.replica.specs.internal.Model.{planOf, bookOf, model, Inv, GoodShop, Empty}
 
@@ -50,7 +49,7 @@ one-panel-shop = record { few = omega arith; below = omega arith }
 
 module _ (panels : ℕ) (own : PanelNo) (good : GoodShop panels (own .0)) where
   abbrev start : State
-  start = emptyState panels own
+  start = firstMemory panels own
 
   start-model : model start ≡ fresh panels (own .0)
   unfolding model bookOf planOf fresh
@@ -85,7 +84,7 @@ module _ (panels : ℕ) (own : PanelNo) (good : GoodShop panels (own .0)) where
     sound = rw start-model (fresh-sound panels (own .0));
   }
 
-  pub empty-made : Empty panels (own .0) (emptyState panels own)
+  pub empty-made : Empty panels (own .0) (firstMemory panels own)
   empty-made = record { state = start-model; invariant = start-inv }
 
 -- ---- fresh
@@ -94,11 +93,17 @@ one-panel : fresh 1 0 ≡ replicaOf (emptyBook 1 0)
 unfolding fresh badShop
 one-panel = refl
 
-module _ (panels own : ℕ) (q : State) where
-  pub fresh-refused : badShop panels own ≡ true → Empty 1 0 q → Fresh panels own (record { refusal = refused.badShop; state = q })
+module _ (panels own : ℕ) where
+  pub fresh-refused : badShop panels own ≡ true
+      → Fresh panels own (record { refusal = refused.badShop; state = firstMemory 1 (panelNo 0) })
   unfolding freshRefusal fresh
-  fresh-refused bad e = record { refusal = rw bad; state = e .state ∙ one-panel ∙ rw bad; invariant = e .invariant }
+  fresh-refused bad =
+      let e = empty-made 1 (panelNo 0) one-panel-shop in
+      record { refusal = rw bad; memory = rw bad; state = e .state ∙ one-panel ∙ rw bad; invariant = e .invariant }
 
-  pub fresh-opened : badShop panels own ≡ false → Empty panels own q → Fresh panels own (record { refusal = refused.accepted; state = q })
+  pub fresh-opened : badShop panels own ≡ false
+      → Fresh panels own (record { refusal = refused.accepted; state = firstMemory panels (panelNo own) })
   unfolding freshRefusal
-  fresh-opened good e = record { refusal = rw good; state = e .state; invariant = e .invariant }
+  fresh-opened good =
+      let e = empty-made panels (panelNo own) (good-shop panels own good) in
+      record { refusal = rw good; memory = rw good; state = e .state; invariant = e .invariant }

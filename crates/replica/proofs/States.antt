@@ -1,23 +1,11 @@
 -- The states that the calls lead to.
 use Prim.Native.Nat.{ℕ, _+_, _-_}
 use mathlib.Core.List.{List}
-use lib.ListN.{getD, set, replicate}
+use lib.ListN.{getD, set}
 use Rattle.counters.specs.declared.Counters.{Counters}
 use Rattle.numbers.specs.declared.Clock.{Clock}
-use Rattle.numbers.specs.declared.PanelNo.{PanelNo}
-use Rattle.numbers.specs.Numbers.{mostPanels}
-use Rattle.registers.specs.Replay.{zeroBoard}
-use Rattle.slots.specs.Slots.{mostSlots}
-use Rattle.store.specs.Requests.{mostWords}
 use Rattle.replica.specs.State.{State, packed}
-use Rattle.replica.specs.internal.Cores.{coreIn, firstCore, withBoard, withEntered, withSettled}
-
--- that of a shift's first moment in that shop
-abbrev pub emptyState : ℕ → PanelNo → State
-emptyState panels own =
-    packed (firstCore panels own) (record { undos = 0; executions = 0 }) (replicate mostPanels 0) (replicate mostPanels 0)
-    (replicate mostPanels 0) (replicate mostSlots 0) (replicate mostSlots 0) (replicate mostWords 0) (replicate mostSlots 0)
-    (replicate mostSlots 0) zeroBoard (replicate mostSlots 0) (replicate mostSlots 0) (replicate mostPanels 0)
+use Rattle.replica.specs.internal.Cores.{coreIn, withBoard, withEntered, withSettled}
 
 -- p after an undo that left those registers and counters
 abbrev pub undoneState : State → List ℕ → Counters → State

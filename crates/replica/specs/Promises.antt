@@ -1,15 +1,21 @@
 -- What fresh and the calls promise of a panel, by the replica of `creek` that its memory stands for.
 use Prim.Native.Nat.{ℕ}
 use mathlib.Core.Path.{_≡_}
-use mathlib.Core.Bool.{false}
+use mathlib.Core.Bool.{false, cond}
+use Rattle.numbers.specs.Numbers.{panelNo}
 use Rattle.creek.specs.Book.{Call, isAccepted}
-use Rattle.creek.specs.Calls.{fresh, freshRefusal, step, answer}
-use Rattle.replica.specs.State.{State, Opened, Called}
+use Rattle.creek.specs.Calls.{badShop, fresh, freshRefusal, step, answer}
+use Rattle.replica.specs.State.{State, firstMemory, Opened, Called}
 use Rattle.replica.specs.internal.Model.{bookOf, model, Inv}
 
--- fresh of that shop: its refusal, and the memory of a shift's first moment as `creek` has it
+-- the memory that fresh of that shop leaves; a refused one leaves that of a one-panel shop, panel 0
+abbrev pub freshMemory : ℕ → ℕ → State
+freshMemory panels own = cond (badShop panels own) (firstMemory 1 (panelNo 0)) (firstMemory panels (panelNo own))
+
+-- fresh of that shop: its refusal, every number of the memory, and that it is a shift's first moment as `creek` has it
 pub record Fresh (panels own : ℕ) (r : Opened) : Type 0 where
   pub refusal : r .refusal ≡ freshRefusal panels own
+  pub memory : r .state ≡ freshMemory panels own
   pub state : model (r .state) ≡ fresh panels own
   pub invariant : Inv (r .state)
 

@@ -1,11 +1,16 @@
--- A panel's memory as one record, of which the contracts speak, and what its calls lead to.
+-- A panel's memory as one record, of which the contracts speak; that of a shift's first moment; and what its calls lead to.
 use Prim.Native.Nat.{ℕ}
 use mathlib.Core.List.{List}
+use lib.ListN.{replicate}
 use Rattle.counters.specs.declared.Counters.{Counters}
 use Rattle.numbers.specs.declared.PanelNo.{PanelNo}
 use Rattle.numbers.specs.declared.Clock.{Clock}
 use Rattle.sets.specs.declared.Context.{Context}
-use Rattle.sets.specs.Sets.{setOf}
+use Rattle.numbers.specs.Numbers.{clockReading}
+use Rattle.sets.specs.Sets.{setOf, emptySet}
+use Rattle.registers.specs.Replay.{zeroBoard}
+use Rattle.slots.specs.Slots.{mostSlots}
+use Rattle.store.specs.Requests.{mostWords}
 use Rattle.creek.specs.declared.Answer.{Answer}
 use Rattle.replica.specs.declared.Core.{Core}
 
@@ -62,6 +67,35 @@ packed core counters held known awaiting clocks operations contexts order stack 
   saved = saved;
   responses = responses;
   settled = setOf settled;
+}
+
+-- ---- a shift's first moment
+
+-- a shop of that many panels, that own panel, and zeros
+abbrev pub firstMemory : ℕ → PanelNo → State
+firstMemory panels own = record {
+  panels = panels;
+  own = own;
+  events = 0;
+  clock = clockReading 0;
+  committed = 0;
+  ordered = 0;
+  executed = 0;
+  stacked = 0;
+  commits = 0;
+  counters = record { undos = 0; executions = 0 };
+  held = emptySet;
+  known = emptySet;
+  awaiting = emptySet;
+  clocks = replicate mostSlots 0;
+  operations = replicate mostSlots 0;
+  contexts = replicate mostWords 0;
+  order = replicate mostSlots 0;
+  stack = replicate mostSlots 0;
+  registers = zeroBoard;
+  saved = replicate mostSlots 0;
+  responses = replicate mostSlots 0;
+  settled = emptySet;
 }
 
 -- ---- what the calls lead to

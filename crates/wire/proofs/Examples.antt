@@ -7,12 +7,13 @@ use lib.ListN.{replicate}
 use Rattle.numbers.specs.Numbers.{numbered}
 use Rattle.request.specs.Operations.{codeSet, codeClaim}
 use Rattle.request.specs.Refusal as refusal
-use Rattle.sets.specs.Sets.{emptySet, setOf}
+use Rattle.sets.specs.Sets.{emptySet, setOf, allZero, isEmpty}
 use Rattle.wire.specs.Integers.{integerAt, integerBytes}
 use Rattle.wire.specs.Layout.{kinds, kindWith, layout, widthsWith, leastSize, mostSize, decode, encode}
 use Rattle.wire.specs.Message.{BusMessage, request, settlement, kindOf, frontOf, runOf, behindOf, contents}
-use Rattle.wire.specs.Message.{widthsOf, sizeOf, fieldsOf, bytesOf, messageFrom}
+use Rattle.wire.specs.Message.{widthsOf, sizeOf, fieldsOf, bytesOf, messageFrom, weakWithContext}
 use Rattle.wire.specs.Reader.{message, end, refused, lengthAt, kindAt, runAt, fieldsAt, spareSet, refusalAs, readAs, readAt}
+use Rattle.wire.specs.Writer.{writeRefusal, writeAnswer}
 
 -- of each kind the least and the most bytes of a message
 lengths : map leastSize kinds ++ map mostSize kinds ≡ (18 ∷ 82 ∷ 6 ∷ []) ++ (18 ∷ 82 ∷ 6 ∷ [])
@@ -70,8 +71,8 @@ unfolding readAt readAs refusalAs lengthAt kindAt kindWith runAt fieldsAt spareS
     integerAt
 read = refl
 
--- ---- refused: three bytes; kind 0, its length wrong as well; a kind 1 message whose length says 19, one whose length says 17, 17 bytes
--- of one, and one whose spare byte is 1
+-- ---- refused: three bytes; kind 0, its length wrong and its bytes cut short as well; of kind 1 a message whose length says 19, one whose
+-- length says 17, 17 bytes of one, and one whose spare byte is 1; with that spare byte, one whose length says 19, and 14 bytes of one
 
 refusedRuns : List (List ℕ)
 refusedRuns =
@@ -81,10 +82,35 @@ refusedRuns =
     ∷ (17 ∷ 0 ∷ 1 ∷ replicate 14 0)
     ∷ (18 ∷ 0 ∷ 1 ∷ replicate 14 0)
     ∷ (18 ∷ 0 ∷ 1 ∷ replicate 10 0 ++ (1 ∷ replicate 4 0))
+    ∷ (19 ∷ 0 ∷ 1 ∷ replicate 10 0 ++ (1 ∷ replicate 5 0))
+    ∷ (18 ∷ 0 ∷ 1 ∷ replicate 10 0 ++ (1 ∷ []))
     ∷ []
 
 not-read : map (λ (s : List ℕ). readAt s 0) refusedRuns
-    ≡ map refused (refusal.cutShort ∷ refusal.unknownKind ∷ refusal.badLength ∷ refusal.badLength ∷ refusal.cutShort ∷ refusal.spareSet ∷ [])
+    ≡ map refused (refusal.cutShort ∷ refusal.unknownKind ∷ refusal.badLength ∷ refusal.badLength ∷ refusal.cutShort ∷ refusal.spareSet
+    ∷ refusal.badLength ∷ refusal.cutShort ∷ [])
 unfolding refusedRuns readAt readAs refusalAs lengthAt kindAt kindWith runAt fieldsAt spareSet leastSize mostSize widthsWith layout decode
     integerAt
 not-read = refl
+
+-- ---- the writer's answers: a weak request that names 1/1, without room and with it; a weak one with a byte too few and with room; a strong
+-- one with a byte too few; a settlement
+
+abbrev weakNaming : BusMessage
+weakNaming =
+    request (record {
+      number = numbered 0 1;
+      clock = record { 0 = 10 };
+      asked = record { code = codeSet; r = 4; q = 0; strong = false; amount = 6 };
+      context = setOf (0 ∷ 1 ∷ replicate 6 0);
+    })
+
+-- refusal and bytes written
+abbrev told : BusMessage → ℕ → List ℕ
+told m room = writeAnswer m room .refusal ∷ writeAnswer m room .bytes ∷ []
+
+answered : told weakNaming 17 ∷ told weakNaming 18 ∷ told weak 17 ∷ told weak 18 ∷ told strong 81 ∷ told settled 6 ∷ []
+    ≡ (refusal.badContext ∷ 0 ∷ []) ∷ (refusal.badContext ∷ 0 ∷ []) ∷ (refusal.noRoom ∷ 0 ∷ []) ∷ (refusal.accepted ∷ 18 ∷ [])
+    ∷ (refusal.noRoom ∷ 0 ∷ []) ∷ (refusal.accepted ∷ 6 ∷ []) ∷ []
+unfolding writeAnswer writeRefusal weakWithContext allZero isEmpty kindOf runOf sizeOf widthsOf widthsWith layout
+answered = refl

@@ -1,13 +1,14 @@
 -- A case for each kind of answer, in every field, and for each showing call at its first, last and refused arguments: what the definitions
 -- compute beside what document 01 says, which are equal by `answers-told` and `shown-told` in `proofs/Cases`.
 use Prim.Native.Nat.{ℕ}
+use mathlib.Core.Bool.{false}
 use mathlib.Core.List.{List, [], _∷_, _++_}
 use lib.ListN.{replicate}
 use Rattle.lists.specs.Lists.{one}
 use Rattle.numbers.specs.Numbers.{mostPanels, mostEvents, numbered}
 use Rattle.sets.specs.Sets.{emptySet, join}
 use Rattle.request.specs.declared.Request.{Request}
-use Rattle.request.specs.Operations.{codeSet, codeAdd, codeClaim}
+use Rattle.request.specs.Operations.{codeRead, codeSet, codeAdd, codeClaim}
 use Rattle.request.specs.Refusal as refused
 use Rattle.creek.specs.declared.Answer.{Answer}
 use Rattle.creek.specs.Book.{Call, deliver, commit, undo, execute}
@@ -16,7 +17,7 @@ use Rattle.creek.specs.Calls.{Replica, freshRefusal, fresh, answer}
 use Rattle.creek.specs.History.{run}
 use Rattle.creek.specs.Showing.{registerRefusal, registerShown, requestsShown, commitsShown, undosShown, executionsShown, owedShown}
 use Rattle.creek.specs.Showing.{placeRefusal, placeShown}
-use Rattle.creek.specs.examples.Notation.{Case, case, read, setTo, add, claim, move, weak, strong, make, makeStrong, answers, driven}
+use Rattle.creek.specs.examples.Notation.{Case, case, read, setTo, add, claim, move, request, weak, strong, make, makeStrong, answers, driven}
 
 -- ---- every field of a request and of an answer
 
@@ -78,6 +79,18 @@ settledWeak = make 7 (add 3 4) ∷ deliver (strong 1 1 20 (read 0) (join emptySe
 abbrev pub namesItself : Call
 namesItself = deliver (strong 1 1 5 (read 0) (join emptySet (numbered 1 1)))
 
+-- a weak request is heard that has a context
+abbrev pub weakWithContext : Call
+weakWithContext = deliver (request 1 1 5 (read 0) false (join emptySet (numbered 0 1)))
+
+-- a strong one whose context names panel 2, of which there is none
+abbrev pub namesNoPanel : Call
+namesNoPanel = deliver (strong 1 1 5 (read 0) (join emptySet (numbered 2 1)))
+
+-- an own request comes back, as it was made and with another clock
+abbrev pub ownBack : ℕ → Call
+ownBack clock = deliver (weak 0 1 clock (read 0))
+
 -- ---- the answers
 
 unfoldable pub answerCases : List Case
@@ -85,6 +98,9 @@ answerCases =
     -- make: the request to be spread, and zeros elsewhere
     case (fieldsTold [] (make 7 (add 3 4)))
     (refused.accepted ∷ 0 ∷ 0 ∷ 0 ∷ noMark ∷ 0 ∷ 1 ∷ 7 ∷ codeAdd ∷ 4 ∷ 0 ∷ 3 ∷ 0 ∷ replicate mostPanels 0)
+    -- the first one has the clock reading that it is made with, 0 too
+    ∷ case (fieldsTold [] (make 0 (read 0)))
+    (refused.accepted ∷ 0 ∷ 0 ∷ 0 ∷ noMark ∷ 0 ∷ 1 ∷ 0 ∷ codeRead ∷ 0 ∷ 0 ∷ 0 ∷ 0 ∷ replicate mostPanels 0)
     -- a strong one with its context, here {1/1}
     ∷ case (fieldsTold (hear ∷ []) claiming)
     (refused.accepted ∷ 0 ∷ 0 ∷ 0 ∷ noMark ∷ 0 ∷ 1 ∷ 20 ∷ codeClaim ∷ 0 ∷ 0 ∷ 5 ∷ 1 ∷ 0 ∷ 1 ∷ replicate 6 0)
@@ -119,6 +135,8 @@ answerCases =
     ∷ case (fieldsTold [] undo) (refusalAlone refused.nothingToUndo)
     ∷ case (fieldsTold (make 7 (read 0) ∷ execute ∷ []) execute) (refusalAlone refused.nothingToDo)
     ∷ case (fieldsTold (make 7 (read 0) ∷ execute ∷ []) undo) (refusalAlone refused.nothingToUndo)
+    -- a read responds with what the register holds
+    ∷ case (fieldsTold (hear ∷ make 20 (read 63) ∷ execute ∷ []) execute) (spreadsNothing refused.accepted 0 1 8 weakMark)
     -- the response also where nobody waits
     ∷ case (fieldsTold (deliver (weak 1 1 10 (add 3 4)) ∷ []) execute) (spreadsNothing refused.accepted 1 1 3 noMark)
     -- a weak request that is settled before its first carry-out is replied to as weak
@@ -127,11 +145,19 @@ answerCases =
     ∷ case (fieldsTold [] (commit (numbered 2 1))) (refusalAlone refused.badNumber)
     ∷ case (fieldsTold settledWeak (commit (numbered 0 1))) (refusalAlone refused.weak)
     ∷ case (fieldsTold (claiming ∷ commit (numbered 0 1) ∷ []) (commit (numbered 0 1))) (refusalAlone refused.settledAlready)
-    -- hear likewise: 2 before 4, 4 before 3, 3 before 21, 21 before 8; and 21 and 8
+    -- hear likewise: 2 before 4, 3 and 21, 4 before 3, 21, 7 and 8, 3 before 21 and 8, 21 before 8; and 21 and 8
     ∷ case (fieldsTold [] (deliver (weak 0 0 10 (read 0)))) (refusalAlone refused.badNumber)
+    ∷ case (fieldsTold [] (deliver (weak 1 0 10 (claim 0 0)))) (refusalAlone refused.badNumber)
+    ∷ case (fieldsTold [] (deliver (strong 1 65 10 (read 0) (join emptySet (numbered 2 1))))) (refusalAlone refused.badNumber)
     ∷ case (fieldsTold [] (deliver (weak 0 1 10 (claim 0 0)))) (refusalAlone refused.ownEcho)
+    ∷ case (fieldsTold [] (deliver (strong 0 1 10 (read 0) (join emptySet (numbered 0 1))))) (refusalAlone refused.ownEcho)
+    ∷ case (fieldsTold (make 7 (read 0) ∷ []) (ownBack 7)) (refusalAlone refused.ownEcho)
+    ∷ case (fieldsTold (make 7 (read 0) ∷ []) (ownBack 8)) (refusalAlone refused.ownEcho)
     ∷ case (fieldsTold [] (deliver (strong 1 1 5 (claim 0 0) (join emptySet (numbered 1 1))))) (refusalAlone refused.badOperation)
+    ∷ case (fieldsTold (hear ∷ []) (deliver (weak 1 1 10 (claim 0 0)))) (refusalAlone refused.badOperation)
     ∷ case (fieldsTold [] namesItself) (refusalAlone refused.badContext)
+    ∷ case (fieldsTold [] weakWithContext) (refusalAlone refused.badContext)
+    ∷ case (fieldsTold [] namesNoPanel) (refusalAlone refused.badContext)
     ∷ case (fieldsTold (deliver (strong 1 1 5 (read 0) emptySet) ∷ []) namesItself) (refusalAlone refused.badContext)
     ∷ case (fieldsTold (hear ∷ []) (deliver (weak 1 1 11 (setTo 63 8)))) (refusalAlone refused.numberClash)
     -- a refused fresh returns a one-panel shop, panel 0, which is used like any other: there is no panel 1 in it

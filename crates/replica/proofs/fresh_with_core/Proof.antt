@@ -1,8 +1,6 @@
 -- `fresh_with_core` meets its contract.
 use mathlib.Core.Path.{sym, _∙_}
-use Rattle.numbers.specs.Numbers.{panelNo}
-use Rattle.replica.proofs.States.{emptyState}
-use Rattle.replica.proofs.FreshLaws.{good-shop, one-panel-shop, empty-made, fresh-refused, fresh-opened}
+use Rattle.replica.proofs.FreshLaws.{fresh-refused, fresh-opened}
 use borrow.Author.Needs.{needs}
 use Rattle.replica.proofs.fresh_with_core.Statement.{statement}
 use Rattle.replica.proofs.fresh_with_core.Tie as tie
@@ -19,7 +17,7 @@ returns c =
     record {
       opened =
           rw (c .first-core .ensures)
-          (fresh-refused _ _ (emptyState 1 (panelNo 0)) (sym (first .before .bad-shop .ensures) ∙ first .if1 .taken) (empty-made 1 (panelNo 0) one-panel-shop));
+          (fresh-refused _ _ (sym (first .before .bad-shop .ensures) ∙ first .if1 .taken));
     }
 
 first-core-requires-2 : tie.Need-first-core-requires-2
@@ -29,7 +27,7 @@ returns-2 : tie.Need-returns-2
 returns-2 c =
     let else = c .before in
     let good = sym (else .before .bad-shop .ensures) ∙ else .if1 .left in
-    record { opened = rw (c .first-core2 .ensures) (fresh-opened _ _ _ good (empty-made _ _ (good-shop _ _ good))) }
+    record { opened = rw (c .first-core2 .ensures) (fresh-opened _ _ good) }
 
 pub fresh-with-core-spec : {M : Type 1} → statement M
 fresh-with-core-spec =
