@@ -4,8 +4,8 @@ use mathlib.Core.List.{List}
 use lib.ListN.{getD, set}
 use Rattle.counters.specs.declared.Counters.{Counters}
 use Rattle.numbers.specs.declared.Clock.{Clock}
-use Rattle.replica.specs.State.{State, packed}
-use Rattle.replica.specs.internal.Cores.{coreIn, withBoard, withEntered, withSettled}
+use Rattle.replica.specs.State.{State}
+use Rattle.replica.specs.internal.Cores.{packed, coreIn, withBoard, withEntered, withSettled}
 
 -- p after an undo that left those registers and counters
 abbrev pub undoneState : State → List ℕ → Counters → State

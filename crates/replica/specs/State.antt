@@ -7,16 +7,15 @@ use Rattle.numbers.specs.declared.PanelNo.{PanelNo}
 use Rattle.numbers.specs.declared.Clock.{Clock}
 use Rattle.sets.specs.declared.Context.{Context}
 use Rattle.numbers.specs.Numbers.{clockReading}
-use Rattle.sets.specs.Sets.{setOf, emptySet}
+use Rattle.sets.specs.Sets.{emptySet}
 use Rattle.registers.specs.Replay.{zeroBoard}
 use Rattle.slots.specs.Slots.{mostSlots}
 use Rattle.store.specs.Requests.{mostWords}
 use Rattle.creek.specs.declared.Answer.{Answer}
-use Rattle.replica.specs.declared.Core.{Core}
 
 -- ---- the memory
 
--- the core's numbers, the step counters, the sets of numbers and the arrays
+-- the numbers, the step counters, the sets of numbers and the arrays
 pub record State : Type 0 where
   pub panels : ℕ
   pub own : PanelNo
@@ -40,34 +39,6 @@ pub record State : Type 0 where
   pub saved : List ℕ
   pub responses : List ℕ
   pub settled : Context
-
--- the memory of a panel with that core, those counters and those arrays
-abbrev pub packed : Core → Counters
-    → (held known awaiting clocks operations contexts order stack registers saved responses settled : List ℕ) → State
-packed core counters held known awaiting clocks operations contexts order stack registers saved responses settled = record {
-  panels = core .panels;
-  own = core .own;
-  events = core .events;
-  clock = core .clock;
-  committed = core .committed;
-  ordered = core .ordered;
-  executed = core .executed;
-  stacked = core .stacked;
-  commits = core .commits;
-  counters = counters;
-  held = setOf held;
-  known = setOf known;
-  awaiting = setOf awaiting;
-  clocks = clocks;
-  operations = operations;
-  contexts = contexts;
-  order = order;
-  stack = stack;
-  registers = registers;
-  saved = saved;
-  responses = responses;
-  settled = setOf settled;
-}
 
 -- ---- a shift's first moment
 

@@ -20,7 +20,6 @@ use creek::Reply;
 use creek::mark::NOBODY;
 use creek::mark::STABLE;
 use creek::mark::WEAK;
-use numbers::Clock;
 use numbers::Number;
 use numbers::PanelNo;
 use request::Request;
@@ -38,42 +37,15 @@ ghost use Prim.Native.Nat.{min};
 ghost use Rattle.numbers.specs.Numbers.{noNumber};
 ghost use Rattle.sets.specs.Sets.{setOf};
 ghost use Rattle.creek.specs.Calls.{badShop};
-ghost use Rattle.creek.specs.Replies.{refusedWith, reply as replyOf, done as doneOf, replyAnswer, replyIn, stepsDone, awaitingAfter};
-ghost use Rattle.replica.specs.internal.Cores.{firstCore};
-ghost use Rattle.replica.specs.internal.Parts.{FreshKept, openedBy};
-
-// The numbers of a panel as one record, for callers that keep them by value.
-#[repr(C)]
-pub struct Core {
-    pub panels: u8,
-    pub own: PanelNo,
-    pub events: u8,
-    pub clock: Clock,
-    pub committed: usize,
-    pub ordered: usize,
-    pub executed: usize,
-    pub stacked: usize,
-    pub commits: u32,
-}
+ghost use Rattle.creek.specs.Replies.{refusedWith, reply as replyOf, replyAnswer, replyIn, stepsDone, awaitingAfter};
+ghost use Rattle.replica.specs.Promises.{Fresh};
+ghost use Rattle.replica.specs.internal.Parts.{openedBy};
 
 // What fresh returns beside the parts that it is lent.
 pub struct Opening {
     pub counters: Counters,
     pub own: PanelNo,
     pub refusal: u8,
-}
-
-// What fresh returns to a caller that has a panel's numbers by value.
-pub struct FreshResult {
-    pub core: Core,
-    pub counters: Counters,
-    pub refusal: u8,
-}
-
-// What a call returns: the core after it and its answer.
-pub struct CallResult {
-    pub core: Core,
-    pub answer: Answer,
 }
 
 // A register's value, or refusal 3.
@@ -116,67 +88,19 @@ pub fn fresh(
     panels: u8,
     own: PanelNo,
 ) -> Opening
-    ensures { λ r. ⌜ FreshKept panels (own .0) (now (held .exit)) (now (known .exit)) (now (awaiting .exit)) (now (clocks .exit))
-        (now (operations .exit)) (now (contexts .exit)) (now (order .exit)) (now (stack .exit)) (now (registers .exit)) (now (saved .exit))
-        (now (responses .exit)) (now (settled .exit))
-        (openedBy (now (committed .exit)) (now (ordered .exit)) (now (executed .exit)) (now (stacked .exit))
-        (now (commits .exit)) (now (clock .exit)) (now (shop .exit)) (now (events .exit)) r) ⌝ }
+    ensures { λ r. ⌜ Fresh panels (own .0)
+        (openedBy (now (committed .exit)) (now (ordered .exit)) (now (executed .exit)) (now (stacked .exit)) (now (commits .exit))
+        (now (clock .exit)) (now (shop .exit)) (now (events .exit)) (now (held .exit)) (now (known .exit)) (now (awaiting .exit))
+        (now (clocks .exit)) (now (operations .exit)) (now (contexts .exit)) (now (order .exit)) (now (stack .exit))
+        (now (registers .exit)) (now (saved .exit)) (now (responses .exit)) (now (settled .exit)) r) ⌝ }
 {
-    let opened = fresh_with_core(
-        held,
-        known,
-        awaiting,
-        clocks,
-        operations,
-        contexts,
-        order,
-        stack,
-        registers,
-        saved,
-        responses,
-        settled,
-        panels,
-        own,
-    );
-    let core = opened.core;
-    let counters = opened.counters;
-    *committed = core.committed;
-    *ordered = core.ordered;
-    *executed = core.executed;
-    *stacked = core.stacked;
-    *commits = core.commits;
-    *clock = core.clock.0;
-    *shop = core.panels;
-    *events = core.events;
-    let number = core.own;
-    Opening {
-        counters,
-        own: number,
-        refusal: opened.refusal,
-    }
-}
-
-// The same for a caller that has a panel's numbers by value.
-pub fn fresh_with_core(
-    held: &mut [u64; 8],
-    known: &mut [u64; 8],
-    awaiting: &mut [u64; 8],
-    clocks: &mut [u32; 512],
-    operations: &mut [u64; 512],
-    contexts: &mut [u64; 4096],
-    order: &mut [u16; 512],
-    stack: &mut [u16; 512],
-    registers: &mut [u32; 64],
-    saved: &mut [u64; 512],
-    responses: &mut [u32; 512],
-    settled: &mut [u64; 8],
-    panels: u8,
-    own: PanelNo,
-) -> FreshResult
-    ensures { λ r. ⌜ FreshKept panels (own .0) (now (held .exit)) (now (known .exit)) (now (awaiting .exit)) (now (clocks .exit))
-        (now (operations .exit)) (now (contexts .exit)) (now (order .exit)) (now (stack .exit)) (now (registers .exit)) (now (saved .exit))
-        (now (responses .exit)) (now (settled .exit)) r ⌝ }
-{
+    *committed = 0;
+    *ordered = 0;
+    *executed = 0;
+    *stacked = 0;
+    *commits = 0;
+    *clock = 0;
+    *events = 0;
     *held = [0u64; 8];
     *known = [0u64; 8];
     *awaiting = [0u64; 8];
@@ -194,17 +118,17 @@ pub fn fresh_with_core(
         executions: 0,
     };
     if bad_shop(panels, own) {
-        let core = first_core(1, PanelNo(0));
-        return FreshResult {
-            core,
+        *shop = 1;
+        return Opening {
             counters,
+            own: PanelNo(0),
             refusal: refusal::BAD_SHOP,
         };
     }
-    let core = first_core(panels, own);
-    FreshResult {
-        core,
+    *shop = panels;
+    Opening {
         counters,
+        own,
         refusal: refusal::ACCEPTED,
     }
 }
@@ -214,23 +138,6 @@ fn bad_shop(panels: u8, own: PanelNo) -> bool
     ensures { λ r. ⌜ r ≡ badShop panels (own .0) ⌝ }
 {
     !((1 <= panels) & (panels <= numbers::MOST_PANELS)) | !(own.0 < panels)
-}
-
-// The core of a shift's first moment.
-fn first_core(panels: u8, own: PanelNo) -> Core
-    ensures { λ c. ⌜ c ≡ firstCore panels own ⌝ }
-{
-    Core {
-        panels,
-        own,
-        events: 0,
-        clock: Clock(0),
-        committed: 0,
-        ordered: 0,
-        executed: 0,
-        stacked: 0,
-        commits: 0,
-    }
 }
 
 // The lower of two numbers.
@@ -300,13 +207,6 @@ pub fn reply(n: Number, response: u32, mark: u8) -> Answer
         response,
         mark,
     }
-}
-
-// The answer of an accepted call that has nothing to say.
-pub fn done() -> Answer
-    ensures { λ a. ⌜ a ≡ doneOf ⌝ }
-{
-    reply(numbers::none(), 0, NOBODY)
 }
 
 // Takes n from those who await a reply after one with that mark: weak and stable end the waiting.

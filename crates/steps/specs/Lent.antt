@@ -4,9 +4,8 @@ use mathlib.Core.List.{List}
 use denote.Ref.{RefT}
 use denote.Triple.Both.{Both}
 use Rattle.counters.specs.Counted.{undosCounted, executionsCounted}
-use Rattle.replica.specs.declared.Core.{Core}
-use Rattle.replica.specs.State.{State, packed}
-use Rattle.replica.specs.internal.Cores.{coreIn, withBoard}
+use Rattle.replica.specs.State.{State}
+use Rattle.replica.specs.internal.Cores.{packed, coreIn, withBoard}
 use Rattle.replica.specs.internal.Parts.{withCounters}
 
 -- what a reference refers to at a function's entry and at its exit

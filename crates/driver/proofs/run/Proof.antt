@@ -38,7 +38,7 @@ run-all-requires c κs =
     let first = opened c in
     let roomy = asked (first .before) .before .before in
     let counted = roomy .before .call-count .ensures in (
-      first .fresh .ensures .opened .invariant,
+      first .fresh .ensures .invariant,
       (counted, answers-room _ _ _ (omega (arith, counted, roomy .if1 .left))),
     )
 
@@ -52,7 +52,7 @@ returns-2 c =
     let own = asked (first .before) in
     let roomy = own .before .before in
     ran-all _ _ _ (roomy .before .call-count .ensures) _ _ (own .before .byte-at .ensures) (own .byte-at2 .ensures) _
-    (first .fresh .ensures .opened) (roomy .if1 .left) _ _ _ (all .run-all .ensures)
+    (first .fresh .ensures) (roomy .if1 .left) _ _ _ (all .run-all .ensures)
 
 pub run-spec : {M : Type 1} → statement M
 run-spec =

@@ -5,7 +5,8 @@ use native.Mathlib.Omega.{arith}
 use lib.ListN.{length}
 use Rattle.numbers.specs.declared.PanelNo.{PanelNo}
 use Rattle.numbers.specs.Numbers.{clockReading}
-use Rattle.replica.specs.State.{State, packed}
+use Rattle.replica.specs.State.{State}
+use Rattle.replica.specs.internal.Cores.{packed}
 use Rattle.encoding.specs.Encoding.{callSize}
 use Rattle.driver.proofs.Running.{Running, run-start, call-within, run-room, run-step, run-end}
 use Rattle.driver.proofs.run_all.Statement.{statement}

@@ -30,7 +30,8 @@ use Rattle.counters.specs.declared.Counters.{Counters}
 use Rattle.counters.proofs.Counters as Cs
 use Rattle.numbers.specs.declared.PanelNo.{PanelNo}
 use Rattle.numbers.proofs.PanelNo as Pn
-use Rattle.replica.specs.internal.Parts.{FreshKept, openedBy}
+use Rattle.replica.specs.Promises.{Fresh}
+use Rattle.replica.specs.internal.Parts.{openedBy}
 use Rattle.replica.proofs.Opening as Op
 use Rattle.replica.proofs.Opening.Laws as Op′
 use Rattle.replica.proofs.fresh as callee
@@ -160,8 +161,9 @@ mizzencord-fresh-spec 𝓤 H 𝓜 𝓖 𝓡 =
           let after = left lent Rs h [] in
           lends-to ! (fmOf 𝓤 H (W .laws) 𝓣) E vs operands (done-local F) b o opening (passes lent Rs [])
           (spelled lent Rs h [] (vint w8 (a .0) ∷ [], (own .spelt .val (a .1 .0) ∷ [], tt))) (emp 𝓤)
-          (λ r zs. let z = after zs in FreshKept (a .0) (a .1 .0 .0) (z .held) (z .known) (z .awaiting) (z .clocks) (z .operations) (z .contexts) (z .order) (z .stack) (z .registers) (z .saved) (z .responses) (z .settled)
-          (openedBy (z .committed) (z .ordered) (z .executed) (z .stacked) (z .commits) (z .clock) (z .panels) (z .events) r))
+          (λ r zs. let z = after zs in Fresh (a .0) (a .1 .0 .0)
+          (openedBy (z .committed) (z .ordered) (z .executed) (z .stacked) (z .commits) (z .clock) (z .panels) (z .events) (z .held) (z .known)
+          (z .awaiting) (z .clocks) (z .operations) (z .contexts) (z .order) (z .stack) (z .registers) (z .saved) (z .responses) (z .settled) r))
           (loan lent Rs h 𝓤 H (𝓖 .A) W b o a [])
           (had lent Rs h 𝓤 H (𝓖 .A) W b o a [] (vint w8 (a .0) ∷ [], (own .spelt .val (a .1 .0) ∷ [], tt)) told
           (number w8 .makes 𝓤 H (𝓖 .A) W (a .0) _ (are .0), (own .makes 𝓤 H (𝓖 .A) W (a .1 .0) _ (are .1 .0), tt))) (id⊢ 𝓤 _)
@@ -182,5 +184,5 @@ mizzencord-fresh-spec 𝓤 H 𝓜 𝓖 𝓡 =
           (own .typed 𝓤 H (𝓖 .A) W (r .own) (told .1 .0)) refl (own-within 𝓤 H (𝓖 .A) W b o z₁ (r .own))) $
           assigns ! (of-opd ! (load ! (from ! (fld ! refl (stop !))) (look-in ! 2 (sub ! 2 refl (the ! E us (done-local F) tt refl)))))
           (from ! (stop !)) (fill-local ! 2 E us result-local refl tt (number w8 .typed 𝓤 H (𝓖 .A) W (r .refusal) (told .1 .1 .0))) $
-          k (r .refusal) (withOwn z₁ (r .own)) us (told .1 .1 .0) (factI 𝓤 _ _ (kept .opened)) tt);
+          k (r .refusal) (withOwn z₁ (r .own)) us (told .1 .1 .0) (factI 𝓤 _ _ kept) tt);
     }))

@@ -1,10 +1,52 @@
--- The cores of a panel that the calls lead to, of which the functions over its parts and the proofs speak.
+-- The numbers of a panel as one record, a memory made of them and of arrays, and those that the calls lead to: of these the functions over
+-- the parts of a panel and the proofs speak.
 use Prim.Native.Nat.{ℕ, _+_}
+use mathlib.Core.List.{List}
+use Rattle.counters.specs.declared.Counters.{Counters}
 use Rattle.numbers.specs.declared.PanelNo.{PanelNo}
 use Rattle.numbers.specs.declared.Clock.{Clock}
-use Rattle.numbers.specs.Numbers.{clockReading}
-use Rattle.replica.specs.declared.Core.{Core}
+use Rattle.sets.specs.Sets.{setOf}
 use Rattle.replica.specs.State.{State}
+
+-- the numbers of a panel
+pub record Core : Type 0 where
+  pub panels : ℕ
+  pub own : PanelNo
+  pub events : ℕ
+  pub clock : Clock
+  pub committed : ℕ
+  pub ordered : ℕ
+  pub executed : ℕ
+  pub stacked : ℕ
+  pub commits : ℕ
+
+-- the memory of a panel with that core, those counters and those arrays
+abbrev pub packed : Core → Counters
+    → (held known awaiting clocks operations contexts order stack registers saved responses settled : List ℕ) → State
+packed core counters held known awaiting clocks operations contexts order stack registers saved responses settled = record {
+  panels = core .panels;
+  own = core .own;
+  events = core .events;
+  clock = core .clock;
+  committed = core .committed;
+  ordered = core .ordered;
+  executed = core .executed;
+  stacked = core .stacked;
+  commits = core .commits;
+  counters = counters;
+  held = setOf held;
+  known = setOf known;
+  awaiting = setOf awaiting;
+  clocks = clocks;
+  operations = operations;
+  contexts = contexts;
+  order = order;
+  stack = stack;
+  registers = registers;
+  saved = saved;
+  responses = responses;
+  settled = setOf settled;
+}
 
 -- the core of a panel's memory
 abbrev pub coreIn : State → Core
@@ -18,20 +60,6 @@ coreIn p = record {
   executed = p .executed;
   stacked = p .stacked;
   commits = p .commits;
-}
-
--- that of a shift's first moment
-abbrev pub firstCore : ℕ → PanelNo → Core
-firstCore panels own = record {
-  panels = panels;
-  own = own;
-  events = 0;
-  clock = clockReading 0;
-  committed = 0;
-  ordered = 0;
-  executed = 0;
-  stacked = 0;
-  commits = 0;
 }
 
 -- with so many in the order

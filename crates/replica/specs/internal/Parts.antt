@@ -4,21 +4,21 @@ use mathlib.Core.Path.{_≡_}
 use mathlib.Core.List.{List}
 use Rattle.numbers.specs.declared.PanelNo.{PanelNo}
 use Rattle.numbers.specs.Numbers.{clockReading}
+use Rattle.sets.specs.Sets.{setOf}
 use Rattle.creek.specs.declared.Answer.{Answer}
 use Rattle.creek.specs.Book.{Call}
 use Rattle.creek.specs.Calls.{Replica}
 use Rattle.creek.specs.Execution.{registers}
 use Rattle.counters.specs.declared.Counters.{Counters}
-use Rattle.replica.specs.declared.Core.{Core}
-use Rattle.replica.specs.State.{State, packed}
+use Rattle.replica.specs.State.{State, Opened}
+use Rattle.replica.specs.internal.Cores.{packed}
 use Rattle.replica.specs.declared.RegisterValue.{RegisterValue}
 use Rattle.replica.specs.declared.PlacedRequest.{PlacedRequest}
 use Rattle.replica.specs.internal.Cores.{coreIn, withOrdering}
 use Rattle.replica.specs.internal.Model.{model, Inv}
-use Rattle.replica.specs.declared.FreshResult.{FreshResult}
 use Rattle.replica.specs.declared.Opening.{Opening}
-use Rattle.replica.specs.State.{packed}
-use Rattle.replica.specs.Promises.{Fresh, Kept}
+use Rattle.replica.specs.internal.Cores.{packed}
+use Rattle.replica.specs.Promises.{Kept}
 use Rattle.replica.specs.Shown.{RegisterShown, PlaceShown}
 
 -- ---- any call: `parts`, `before` and `after` put what is lent in the place of a panel's own
@@ -61,32 +61,37 @@ standing panels own committed p = record {
 
 -- ---- fresh
 
--- core, counters and lent arrays are those that fresh of that shop leads to
-pub record FreshKept (panels own : ℕ)
-    (held known awaiting clocks operations contexts order stack registers saved responses settled : List ℕ)
-    (r : FreshResult) : Type 0 where
-  pub opened : Fresh panels own (record {
-    refusal = r .refusal;
-    state = packed (r .core) (r .counters) held known awaiting clocks operations contexts order stack registers saved responses settled;
-  })
-
--- fresh left those numbers, and returned r
-abbrev pub openedBy : (committed ordered executed stacked commits clock panels events : ℕ) → Opening → FreshResult
-openedBy committed ordered executed stacked commits clock panels events r = record {
-  core = record {
-    panels = panels;
-    own = r .own;
-    events = events;
-    clock = clockReading clock;
-    committed = committed;
-    ordered = ordered;
-    executed = executed;
-    stacked = stacked;
-    commits = commits;
-  };
-  counters = r .counters;
-  refusal = r .refusal;
-}
+-- fresh left those numbers and arrays, and returned r
+abbrev pub openedBy : (committed ordered executed stacked commits clock panels events : ℕ)
+    (held known awaiting clocks operations contexts order stack registers saved responses settled : List ℕ) → Opening → Opened
+openedBy committed ordered executed stacked commits clock panels events held known awaiting clocks operations contexts order stack
+    registers saved responses settled r = record {
+      refusal = r .refusal;
+      state = record {
+        panels = panels;
+        own = r .own;
+        events = events;
+        clock = clockReading clock;
+        committed = committed;
+        ordered = ordered;
+        executed = executed;
+        stacked = stacked;
+        commits = commits;
+        counters = r .counters;
+        held = setOf held;
+        known = setOf known;
+        awaiting = setOf awaiting;
+        clocks = clocks;
+        operations = operations;
+        contexts = contexts;
+        order = order;
+        stack = stack;
+        registers = registers;
+        saved = saved;
+        responses = responses;
+        settled = setOf settled;
+      };
+    }
 
 -- ---- the showing calls
 

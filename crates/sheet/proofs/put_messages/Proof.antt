@@ -7,7 +7,8 @@ use lib.ListN.{length}
 use borrow.Author.Needs.{needs}
 use Rattle.numbers.specs.declared.PanelNo.{PanelNo}
 use Rattle.numbers.specs.Numbers.{clockReading}
-use Rattle.replica.specs.State.{State, packed}
+use Rattle.replica.specs.State.{State}
+use Rattle.replica.specs.internal.Cores.{packed}
 use Rattle.counters.specs.Counted.{mostSteps}
 use Rattle.replica.proofs.BoundLaws.{undos-fit, executions-fit}
 use Rattle.text.proofs.PlacedLaws.{same-size}

@@ -88,7 +88,7 @@ returns-2 c =
     let w = c .before .before .put-refused2 .ensures in
     let bad = c .before .before .before .before in
     let fresh = bad .before .before in
-    let is = fresh-bad _ _ _ (fresh .fresh .ensures .opened .refusal) (bad .if2 .taken) in
+    let is = fresh-bad _ _ _ (fresh .fresh .ensures .refusal) (bad .if2 .taken) in
     record {
       written = rw (printout-bad _ (long (shop fresh) .if1 .left) is) w;
       few = omega (arith, w .place, refused-short refusal.badShop (omega arith));
@@ -123,7 +123,7 @@ put-messages-requires c κs =
     let fresh = opened (board c) in
     let s = shop fresh in
     let pre = start (long s) .pre in (
-      fresh .fresh .ensures .opened .invariant,
+      fresh .fresh .ensures .invariant,
       (long s .if1 .left, (pre .0, omega (arith, pre .1, w .place, same-size w, board-fits s))),
     )
 
@@ -154,7 +154,7 @@ returns-3 c =
     let m = put .put-messages .ensures in
     let w = board (put .before) .put-board .ensures in
     let fresh = opened (board (put .before)) in
-    let f = fresh .fresh .ensures .opened in
+    let f = fresh .fresh .ensures in
     let good = fresh-good _ _ _ (f .refusal) (board (put .before) .before .before .if2 .left) in
     let s = shop fresh in
     record {
