@@ -1,3 +1,4 @@
 -- The laws behind a run.
 pub mod Running
 pub mod RunLaws
+pub mod TakenLaws

@@ -1,12 +1,18 @@
 // One call of a list, read and carried out on the panel.
 use creek::Answer;
+use creek::Reply;
 use creek::mark;
 use encoding::calls;
 use numbers::PanelNo;
+use wire::Message;
+use wire::Subject;
 ghost use Prim.Native.Nat.{_<_};
 ghost use lib.ListN.{length};
 ghost use Rattle.replica.specs.internal.Model.{Inv};
 ghost use Rattle.replica.specs.internal.Whole.{wholeNow, wholeEntry, wholeExit};
+ghost use Rattle.creek.specs.Replies.{replyAnswer};
+ghost use Rattle.wire.specs.Message.{said};
+ghost use Rattle.intake.specs.internal.Parts.{lentNow, lentEntry, lentExit, TakeAsks, Taken};
 ghost use Rattle.encoding.specs.Encoding.{entryAt};
 ghost use Rattle.encoding.specs.internal.Running.{Done};
 
@@ -119,7 +125,7 @@ pub(crate) fn call(
             asked,
         );
     }
-    let reply = intake::take(
+    let reply = take(
         panels,
         own,
         committed,
@@ -139,4 +145,79 @@ pub(crate) fn call(
         message,
     );
     replica::answer_of(reply)
+}
+
+// A request is heard, a settlement is settled.
+fn take<'a>(
+    panels: u8,
+    own: PanelNo,
+    committed: &mut usize,
+    ordered: &mut usize,
+    executed: &mut usize,
+    commits: &mut u32,
+    held: &mut [u64; 8],
+    known: &mut [u64; 8],
+    awaiting: &mut [u64; 8],
+    clocks: &mut [u32; 512],
+    operations: &mut [u64; 512],
+    contexts: &mut [u64; 4096],
+    order: &mut [u16; 512],
+    stack: &'a [u16; 512],
+    responses: &'a [u32; 512],
+    settled: &mut [u64; 8],
+    m: Message,
+) -> Reply
+    requires { ⌜ TakeAsks panels own
+        (lentNow committed ordered executed commits held known awaiting clocks operations contexts order stack responses settled) ⌝ }
+    ensures { λ r. ⌜ Taken panels own
+        (lentEntry committed ordered executed commits held known awaiting clocks operations contexts order stack responses settled) (said m)
+        (lentExit committed ordered executed commits held known awaiting clocks operations contexts order stack responses settled)
+        (replyAnswer r) ⌝ }
+{
+    let x = m.request;
+    let subject = m.subject;
+    match subject {
+        Subject::Request => {
+            let count = *committed;
+            let refusal = entering::deliver(
+                panels,
+                own,
+                count,
+                ordered,
+                executed,
+                held,
+                known,
+                clocks,
+                operations,
+                contexts,
+                order,
+                x.number,
+                x.clock,
+                x.asked,
+                &x.context.words,
+            );
+            replica::refusing(refusal)
+        }
+        Subject::Settlement => {
+            let standing = *ordered;
+            settling::commit(
+                panels,
+                standing,
+                committed,
+                executed,
+                commits,
+                held,
+                known,
+                awaiting,
+                clocks,
+                operations,
+                contexts,
+                order,
+                stack,
+                responses,
+                settled,
+                x.number,
+            )
+        }
+    }
 }

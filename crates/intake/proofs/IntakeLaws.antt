@@ -16,11 +16,9 @@ use Rattle.request.specs.Refusal.{accepted}
 use Rattle.creek.specs.declared.Answer.{Answer}
 use Rattle.creek.specs.Book.{deliver, commit}
 use Rattle.replica.specs.internal.Parts.{KeptBy}
-use Rattle.wire.specs.declared.Message.{Message}
 use Rattle.wire.specs.declared.Subject.the-variants.{Request as aRequest, Settlement}
 use Rattle.wire.specs.Message.{BusMessage, said}
 use Rattle.wire.specs.Reader.{Outcome, message, end, refused, answered}
-use Rattle.wire.proofs.HeldLaws.{said-settlement, said-request}
 use Rattle.intake.specs.Intake.{callOf, answerTo, received, isTakenIn}
 use Rattle.intake.specs.internal.Parts.{Lent, nothing, takeParts, Taken, contextIn, heardAt, ReceiveKept}
 
@@ -33,19 +31,6 @@ unfolding decode
 request-read s at strong number clock asked context = λ i. record { number = number i; clock = clock i; asked = asked i; context = context i }
 
 module _ {panels : ℕ} {own : PanelNo} {l : Lent} where
-  -- ---- the call that a message stands for
-
-  module _ (m : Message) {l′ : Lent} {a : Answer} where
-    pub take-settled : m .subject ≡ Settlement
-        → KeptBy (takeParts panels own l) (takeParts panels own l′) (commit (m .request .number)) a → Taken panels own l (said m) l′ a
-    unfolding callOf
-    take-settled e k = rw (said-settlement m e) k
-
-    pub take-heard : m .subject ≡ aRequest
-        → KeptBy (takeParts panels own l) (takeParts panels own l′) (deliver (m .request)) a → Taken panels own l (said m) l′ a
-    unfolding callOf
-    take-heard e k = rw (said-request m e) k
-
   -- what is heard, under another name
   pub heard-as : {l′ : Lent} {a : Answer} {x y : Request} → x ≡ y → heardAt panels own l x l′ a → heardAt panels own l y l′ a
   heard-as {l′} {a} e k = subst (λ (x : Request). heardAt panels own l x l′ a) e k

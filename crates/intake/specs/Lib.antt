@@ -1,4 +1,3 @@
 -- The definitions that the contracts cite.
 pub mod Intake
 pub mod internal
-pub mod Found

@@ -1,19 +1,28 @@
-// Bus messages taken in by a panel: the call that a message stands for, and the message at a place of a run of bytes.
+// The message at a place of a run of bytes received by a panel: its head is judged, and then its fields go from the bytes to the panel.
 //
-// The panel's parts are lent as in `entering` and `settling`, whose calls these are. Here a message is taken in that was read before; one that
-// stands at a place of a run of bytes is received in `receiving`. `Intake` of `specs/` says what a message stands for and what receiving
-// promises, `Found` which messages are found in a run of bytes.
-pub mod receiving;
-
+// The panel's parts are lent as in `entering` and `settling`, whose calls these are. `Intake` of `specs/` says what a message stands for and
+// what receiving promises.
 use creek::Answer;
 use creek::Reply;
 use numbers::PanelNo;
-pub use receiving::receive;
-use wire::Message;
-use wire::Subject;
+use parts::places;
+use parts::reading;
+use request::refusal;
+use wire::HeadAnswer;
+use wire::Kind;
+ghost use mathlib.Core.Path.{_≡_};
+ghost use Prim.Native.Nat.{_+_, _≤_};
+ghost use lib.ListN.{length, replicate};
+ghost use Rattle.numbers.specs.Numbers.{mostPanels};
+ghost use Rattle.parts.specs.Widths.{weakWidths, size, decode};
+ghost use Rattle.parts.specs.Contents.{requestFrom};
+ghost use Rattle.creek.specs.Book.{deliver as deliverCall};
 ghost use Rattle.creek.specs.Replies.{replyAnswer};
-ghost use Rattle.wire.specs.Message.{said};
-ghost use Rattle.intake.specs.internal.Parts.{lentNow, lentEntry, lentExit, TakeAsks, Taken};
+ghost use Rattle.replica.specs.internal.Parts.{KeptBy};
+ghost use Rattle.wire.specs.Reader.{readAt};
+ghost use Rattle.wire.specs.Head.{GoodHead, messageAt};
+ghost use Rattle.intake.specs.internal.Parts.{lentNow, lentEntry, lentExit, takeParts, TakeAsks, Taken, nothing, ReceiveKept};
+ghost use Rattle.intake.specs.internal.Parts.{contextSize, contextIn, ContextPut, heardAt};
 
 // What the message at a place led to: the answer, and the message's bytes, 0 where none could be read.
 #[repr(C)]
@@ -22,8 +31,10 @@ pub struct Receipt {
     pub taken: usize,
 }
 
-// A request is heard, a settlement is settled.
-pub fn take<'a>(
+// The message at a place is heard or settled; what cannot be read leaves the panel alone.
+pub fn receive<'a>(
+    bytes: &[u8],
+    at: usize,
     panels: u8,
     own: PanelNo,
     committed: &mut usize,
@@ -40,40 +51,123 @@ pub fn take<'a>(
     stack: &'a [u16; 512],
     responses: &'a [u32; 512],
     settled: &mut [u64; 8],
-    m: Message,
-) -> Reply
+) -> Receipt
     requires { ⌜ TakeAsks panels own
         (lentNow committed ordered executed commits held known awaiting clocks operations contexts order stack responses settled) ⌝ }
-    ensures { λ r. ⌜ Taken panels own
-        (lentEntry committed ordered executed commits held known awaiting clocks operations contexts order stack responses settled) (said m)
-        (lentExit committed ordered executed commits held known awaiting clocks operations contexts order stack responses settled)
-        (replyAnswer r) ⌝ }
+    ensures { λ r. ⌜ ReceiveKept panels own
+        (lentEntry committed ordered executed commits held known awaiting clocks operations contexts order stack responses settled) (readAt (now (bytes .entry)) at)
+        (lentExit committed ordered executed commits held known awaiting clocks operations contexts order stack responses settled) r ⌝ }
 {
-    let x = m.request;
-    let subject = m.subject;
-    match subject {
-        Subject::Request => {
-            let count = *committed;
-            let refusal = entering::deliver(
+    let head = wire::head_at(bytes, at);
+    let found = head.answer;
+    match found {
+        HeadAnswer::Good(kind) => {
+            let reply = take_at(
+                bytes,
+                at,
+                kind,
                 panels,
                 own,
-                count,
+                committed,
                 ordered,
                 executed,
+                commits,
                 held,
                 known,
+                awaiting,
                 clocks,
                 operations,
                 contexts,
                 order,
-                x.number,
-                x.clock,
-                x.asked,
-                &x.context.words,
+                stack,
+                responses,
+                settled,
             );
-            replica::refusing(refusal)
+            let answer = replica::answer_of(reply);
+            Receipt {
+                answer,
+                taken: head.taken,
+            }
         }
-        Subject::Settlement => {
+        HeadAnswer::End => untaken(refusal::ACCEPTED),
+        HeadAnswer::Refused(refusal) => untaken(refusal),
+    }
+}
+
+// The message of that kind, whose head stands at a place, is heard or settled.
+fn take_at<'a>(
+    bytes: &[u8],
+    at: usize,
+    kind: Kind,
+    panels: u8,
+    own: PanelNo,
+    committed: &mut usize,
+    ordered: &mut usize,
+    executed: &mut usize,
+    commits: &mut u32,
+    held: &mut [u64; 8],
+    known: &mut [u64; 8],
+    awaiting: &mut [u64; 8],
+    clocks: &mut [u32; 512],
+    operations: &mut [u64; 512],
+    contexts: &mut [u64; 4096],
+    order: &mut [u16; 512],
+    stack: &'a [u16; 512],
+    responses: &'a [u32; 512],
+    settled: &mut [u64; 8],
+) -> Reply
+    requires { ⌜ GoodHead kind (now bytes) at ⌝ }
+    requires { ⌜ TakeAsks panels own
+        (lentNow committed ordered executed commits held known awaiting clocks operations contexts order stack responses settled) ⌝ }
+    ensures { λ r. ⌜ Taken panels own
+        (lentEntry committed ordered executed commits held known awaiting clocks operations contexts order stack responses settled) (messageAt kind (now (bytes .entry)) at)
+        (lentExit committed ordered executed commits held known awaiting clocks operations contexts order stack responses settled) (replyAnswer r) ⌝ }
+{
+    match kind {
+        Kind::Weak => hear_at(
+            bytes,
+            at,
+            false,
+            panels,
+            own,
+            committed,
+            ordered,
+            executed,
+            commits,
+            held,
+            known,
+            awaiting,
+            clocks,
+            operations,
+            contexts,
+            order,
+            stack,
+            responses,
+            settled,
+        ),
+        Kind::Strong => hear_at(
+            bytes,
+            at,
+            true,
+            panels,
+            own,
+            committed,
+            ordered,
+            executed,
+            commits,
+            held,
+            known,
+            awaiting,
+            clocks,
+            operations,
+            contexts,
+            order,
+            stack,
+            responses,
+            settled,
+        ),
+        Kind::Settlement => {
+            let number = reading::number_at(bytes, at);
             let standing = *ordered;
             settling::commit(
                 panels,
@@ -91,8 +185,82 @@ pub fn take<'a>(
                 stack,
                 responses,
                 settled,
-                x.number,
+                number,
             )
         }
     }
+}
+
+// The request of that strength at a place is heard, with the words of its context where it is strong.
+fn hear_at<'a>(
+    bytes: &[u8],
+    at: usize,
+    strong: bool,
+    panels: u8,
+    own: PanelNo,
+    committed: &mut usize,
+    ordered: &mut usize,
+    executed: &mut usize,
+    commits: &mut u32,
+    held: &mut [u64; 8],
+    known: &mut [u64; 8],
+    awaiting: &mut [u64; 8],
+    clocks: &mut [u32; 512],
+    operations: &mut [u64; 512],
+    contexts: &mut [u64; 4096],
+    order: &mut [u16; 512],
+    stack: &'a [u16; 512],
+    responses: &'a [u32; 512],
+    settled: &mut [u64; 8],
+) -> Reply
+    requires { ⌜ at + size weakWidths + contextSize strong ≤ length (now bytes) ⌝ }
+    requires { ⌜ TakeAsks panels own
+        (lentNow committed ordered executed commits held known awaiting clocks operations contexts order stack responses settled) ⌝ }
+    ensures { λ r. ⌜ heardAt panels own
+        (lentEntry committed ordered executed commits held known awaiting clocks operations contexts order stack responses settled)
+        (requestFrom (decode weakWidths (now (bytes .entry)) at) strong (contextIn strong (now (bytes .entry)) at))
+        (lentExit committed ordered executed commits held known awaiting clocks operations contexts order stack responses settled) (replyAnswer r) ⌝ }
+{
+    let mut words = [0u64; 8];
+    put_context(&mut words, bytes, at, strong);
+    let number = reading::number_at(bytes, at);
+    let clock = reading::clock_at(bytes, at);
+    let asked = reading::asked_at(bytes, at, strong);
+    let standing = *committed;
+    let refusal = entering::deliver(
+        panels,
+        own,
+        standing,
+        ordered,
+        executed,
+        held,
+        known,
+        clocks,
+        operations,
+        contexts,
+        order,
+        number,
+        clock,
+        asked,
+        &words,
+    );
+    replica::refusing(refusal)
+}
+
+// Puts the words of the context of a request of that strength at a place where zeros stand.
+fn put_context(words: &mut [u64; 8], bytes: &[u8], at: usize, strong: bool)
+    requires { ⌜ (now words ≡ replicate mostPanels 0) × (at + size weakWidths + contextSize strong ≤ length (now bytes)) ⌝ }
+    ensures { λ _. ⌜ ContextPut strong (now (bytes .entry)) at (now (words .exit)) ⌝ }
+{
+    if strong {
+        reading::words_at(words, bytes, at + places::CONTEXT_AT);
+    }
+}
+
+// Nothing was taken in, by that refusal.
+fn untaken(refusal: u8) -> Receipt
+    ensures { λ r. ⌜ r ≡ nothing refusal ⌝ }
+{
+    let answer = replica::refused(refusal);
+    Receipt { answer, taken: 0 }
 }

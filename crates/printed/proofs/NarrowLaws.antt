@@ -32,7 +32,7 @@ use Rattle.wire.specs.Reader.{Outcome, message, end, refused, refusalOf, answer
 use Rattle.wire.specs.Reader.{refusalAs, readAs, readWith, readAt}
 use Rattle.wire.proofs.RoundTrip.{taken}
 use Rattle.intake.specs.Intake.{callOf}
-use Rattle.intake.specs.Found.{passed, found}
+use Rattle.runs.specs.Found.{passed, found}
 use Rattle.printed.specs.Printout.{numberIn}
 
 -- ---- refusal numbers

@@ -42,8 +42,8 @@ use Rattle.wire.specs.Message.{BusMessage, request, settlement, kindOf}
 use Rattle.wire.specs.Reader.{Outcome, message, end, refused, readAt}
 use Rattle.wire.proofs.KindLaws.{kind-laws}
 use Rattle.intake.specs.Intake.{callOf}
-use Rattle.intake.specs.Found.{foundFrom}
-use Rattle.intake.proofs.FoundLaws.{bytesOf, Takes, whole, all, takes, taken-within, one-found, none-found}
+use Rattle.runs.specs.Found.{foundFrom}
+use Rattle.runs.proofs.FoundLaws.{bytesOf, Takes, whole, all, takes, taken-within, one-found, none-found}
 use Rattle.report.specs.Sizes.{mostMessageBytes, mostTotalsBytes, mostRegistersBytes}
 use Rattle.report.proofs.SizeLaws.{board-short, refused-short, message-short, unread-short, totals-short, registers-short}
 use Rattle.printed.specs.Printout.{mostInput, shopBytes, after, afterAll, lineOfMessage, lineFor, refusalIn, undoneIn}

@@ -25,7 +25,7 @@ use Rattle.wire.specs.Message.{kindOf, messageFrom}
 use Rattle.wire.specs.Reader.{lengthAt, kindAt, runAt, fieldsAt, spareSet, refusalAs, readAs, readAt}
 use Rattle.report.specs.Lines.{boardLine, messageLine, totalsLine, registerLine, lineUnlessZero, registerLinesFrom, registerLines}
 use Rattle.intake.specs.Intake.{callOf}
-use Rattle.intake.specs.Found.{found}
+use Rattle.runs.specs.Found.{found}
 use Rattle.printed.specs.Printout.{after, afterAll, numberIn, lineOfMessage, lineFor, refusalIn}
 use Rattle.printed.specs.Printout.{messageLines, closing, printoutOf, printout}
 

@@ -16,7 +16,7 @@ use Rattle.wire.specs.Layout.{kindNumber, leastMessage}
 use Rattle.wire.specs.Message.{BusMessage, request, settlement, kindOf}
 use Rattle.wire.specs.Reader.{Outcome, message, end, refused}
 use Rattle.intake.specs.Intake.{callOf}
-use Rattle.intake.specs.Found.{foundFrom}
+use Rattle.runs.specs.Found.{foundFrom}
 use Rattle.report.specs.Lines.{boardLine, refusedLine, messageLine, unreadLine, totalsLine, registerLines}
 use Rattle.report.specs.Sizes.{mostBoardBytes, mostMessageBytes, mostTotalsBytes, mostRegistersBytes}
 

@@ -36,8 +36,8 @@ use Rattle.wire.proofs.ReaderLaws.{not-at-end}
 use Rattle.wire.proofs.RoundTrip.{taken-least, taken-inside, kind-told, number-told}
 use Rattle.intake.specs.declared.Receipt.{Receipt}
 use Rattle.intake.specs.Intake.{answerTo, received, Received}
-use Rattle.intake.specs.Found.{foundFrom}
-use Rattle.intake.proofs.FoundLaws.{bytesOf, one-found, none-found}
+use Rattle.runs.specs.Found.{foundFrom}
+use Rattle.runs.proofs.FoundLaws.{bytesOf, one-found, none-found}
 use Rattle.printed.proofs.SizeLaws.{registers-count}
 use Rattle.printed.specs.Printout.{after, afterAll, refusalIn, undoneIn, numberIn, lineOfMessage, lineFor, messageLines}
 use Rattle.printed.specs.Printout.{shopBytes, mostMessages, mostInput, closing, printoutOf, printout}

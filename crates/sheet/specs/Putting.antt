@@ -12,7 +12,7 @@ use Rattle.replica.specs.State.{State}
 use Rattle.replica.specs.internal.Model.{model, Inv}
 use Rattle.wire.specs.Message.{BusMessage}
 use Rattle.wire.specs.Reader.{message, readAt}
-use Rattle.intake.specs.Found.{foundFrom}
+use Rattle.runs.specs.Found.{foundFrom}
 use Rattle.printed.specs.Printout.{afterAll, lineOfMessage, messageLines, shopBytes, mostMessages, mostPrinted, printout}
 
 -- the line of the message that stands at the place `from` of s was put

@@ -21,9 +21,9 @@ use Rattle.wire.specs.Reader.{readAt}
 use Rattle.intake.specs.internal.Parts.{TakeAsks, ReceiveKept}
 use Rattle.intake.proofs.Receipt as X
 use Rattle.intake.proofs.Receipt.Laws as X′
-use Rattle.intake.proofs.receiving.receive as callee
-use Rattle.intake.proofs.receiving.receive.Symbol as callee-def
-use Rattle.intake.proofs.receiving.receive.Met as callee-thm
+use Rattle.intake.proofs.receive as callee
+use Rattle.intake.proofs.receive.Symbol as callee-def
+use Rattle.intake.proofs.receive.Met as callee-thm
 use Rattle.replica.specs.internal.Model.{Inv}
 use Rattle.mizzencord.specs.Memory.{memory}
 use Rattle.mizzencord.proofs.Panel as T

@@ -1,14 +1,14 @@
--- `take` meets its contract.
+-- `entry::take` meets its contract.
 use mathlib.Core.Path.{_≡_}
 use lib.ListN.{length}
 use Rattle.numbers.specs.Numbers.{mostPanels}
 use Rattle.creek.specs.Replies.{replyAnswer}
 use Rattle.replica.specs.State.{State}
 use Rattle.intake.specs.internal.Parts.{Lent, lentNow, takeParts}
-use Rattle.intake.proofs.IntakeLaws.{take-settled, take-heard}
+use Rattle.driver.proofs.TakenLaws.{take-settled, take-heard}
 use borrow.Author.Needs.{needs}
-use Rattle.intake.proofs.take.Statement.{statement}
-use Rattle.intake.proofs.take.Tie as tie
+use Rattle.driver.proofs.entry.take.Statement.{statement}
+use Rattle.driver.proofs.entry.take.Tie as tie
 
 -- ---- the places of the call
 

@@ -1,4 +1,4 @@
--- `receiving::put_context` meets its contract.
+-- `put_context` meets its contract.
 use Prim.Native.Nat.{ℕ}
 use native.Mathlib.Omega.{arith}
 use mathlib.Core.Path.{_≡_, ap, _∙_}
@@ -8,8 +8,8 @@ use Rattle.sets.specs.Sets.{setOf}
 use Rattle.parts.specs.Widths.{contextWidths}
 use Rattle.parts.proofs.WidthLaws.{length-decode}
 use borrow.Author.Needs.{needs}
-use Rattle.intake.proofs.receiving.put_context.Statement.{statement}
-use Rattle.intake.proofs.receiving.put_context.Tie as tie
+use Rattle.intake.proofs.put_context.Statement.{statement}
+use Rattle.intake.proofs.put_context.Tie as tie
 
 -- there is a word for each panel
 long : (c : tie.Start) → length (c .args .words .now) ≡ mostPanels

@@ -1,7 +1,7 @@
--- `receiving::untaken` meets its contract.
+-- `untaken` meets its contract.
 use borrow.Author.Needs.{needs}
-use Rattle.intake.proofs.receiving.untaken.Statement.{statement}
-use Rattle.intake.proofs.receiving.untaken.Tie as tie
+use Rattle.intake.proofs.untaken.Statement.{statement}
+use Rattle.intake.proofs.untaken.Tie as tie
 
 refused-requires : tie.Need-refused-requires
 refused-requires c κs = search needs

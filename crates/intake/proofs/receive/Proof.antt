@@ -1,9 +1,9 @@
--- `receiving::receive` meets its contract, by what the head answers.
+-- `receive` meets its contract, by what the head answers.
 use Rattle.wire.proofs.HeadLaws.{good-head, good-reads, end-reads, refused-reads}
 use Rattle.intake.proofs.IntakeLaws.{receive-message, receive-end, receive-refused}
 use borrow.Author.Needs.{needs}
-use Rattle.intake.proofs.receiving.receive.Statement.{statement}
-use Rattle.intake.proofs.receiving.receive.Tie as tie
+use Rattle.intake.proofs.receive.Statement.{statement}
+use Rattle.intake.proofs.receive.Tie as tie
 
 -- where the head is known, from where the message is to be taken
 abbrev headed : tie.After-take-at-arg12 → tie.After-found

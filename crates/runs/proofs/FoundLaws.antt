@@ -8,7 +8,7 @@ use lib.ListN.{length}
 use Rattle.wire.specs.Layout.{leastMessage}
 use Rattle.wire.specs.Reader.{Outcome, message, end, refused, readAt}
 use Rattle.wire.proofs.RoundTrip.{taken-least, taken-inside}
-use Rattle.intake.specs.Found.{passed, found, foundFrom}
+use Rattle.runs.specs.Found.{passed, found, foundFrom}
 
 -- how many bytes an outcome takes where so many are left: those of a message, or all of them
 abbrev pub bytesOf : Outcome → ℕ → ℕ

@@ -1,12 +1,12 @@
--- `receiving::hear_at` meets its contract by that of `entering::deliver`.
+-- `hear_at` meets its contract by that of `entering::deliver`.
 use native.Mathlib.Omega.{arith}
 use mathlib.Core.Path.{refl}
 use Rattle.replica.specs.State.{State}
 use Rattle.intake.specs.internal.Parts.{lentNow, takeParts}
 use Rattle.intake.proofs.IntakeLaws.{request-read, heard-as}
 use borrow.Author.Needs.{needs}
-use Rattle.intake.proofs.receiving.hear_at.Statement.{statement}
-use Rattle.intake.proofs.receiving.hear_at.Tie as tie
+use Rattle.intake.proofs.hear_at.Statement.{statement}
+use Rattle.intake.proofs.hear_at.Tie as tie
 
 -- ---- the places of the call
 

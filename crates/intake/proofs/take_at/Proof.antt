@@ -1,4 +1,4 @@
--- `receiving::take_at` meets its contract, kind by kind.
+-- `take_at` meets its contract, kind by kind.
 use native.Mathlib.Omega.{arith}
 use mathlib.Core.Path.{_≡_, ap, _∙_}
 use Rattle.replica.specs.State.{State}
@@ -10,8 +10,8 @@ use Rattle.wire.proofs.HeadLaws.{weak-inside, strong-inside, settlement-inside,
 use Rattle.intake.specs.Intake.{callOf}
 use Rattle.intake.specs.internal.Parts.{lentNow, takeParts}
 use borrow.Author.Needs.{needs}
-use Rattle.intake.proofs.receiving.take_at.Statement.{statement}
-use Rattle.intake.proofs.receiving.take_at.Tie as tie
+use Rattle.intake.proofs.take_at.Statement.{statement}
+use Rattle.intake.proofs.take_at.Tie as tie
 
 -- ---- the places of the call
 

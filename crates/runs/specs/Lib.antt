@@ -1,0 +1,2 @@
+-- What is found in a run of bytes.
+pub mod Found

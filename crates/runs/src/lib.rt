@@ -1,0 +1,1 @@
+// The messages found in a run of bytes, as definitions and laws: no code.
