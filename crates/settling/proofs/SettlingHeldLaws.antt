@@ -1,5 +1,5 @@
 -- What is kept at a slot and held under a number; and that a held strong request is known exactly where it is committed.
-use Prim.Native.Nat.{ℕ}
+use Prim.Native.Nat.{ℕ, _≤_}
 use native.Mathlib.Omega.{arith}
 use mathlib.Core.Path.{_≡_, refl, sym, ap, _∙_}
 use mathlib.Core.Bool.{Bool, true, false, not}
@@ -45,10 +45,13 @@ module _ {p : State} (inv : Inv p) where
   unfolding model bookOf
   sound-plan = inv .sound .plan
 
+  pub few-panels : p .panels ≤ mostPanels
+  unfolding planOf
+  few-panels = sound-plan .held .few-panels
+
   -- a good number of this shop is one of the largest
   pub good-widened : {n : Number} → badNumber (p .panels) n ≡ false → GoodNumber mostPanels n
-  unfolding planOf
-  good-widened {n} e = widened (sound-plan .held .few-panels) (good-number (p .panels) n e)
+  good-widened {n} e = widened few-panels (good-number (p .panels) n e)
 
 -- s is the slot of n, which is good and held
 pub record HeldAt (p : State) (n : Number) (s : ℕ) : Type 0 where

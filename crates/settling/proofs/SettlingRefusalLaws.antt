@@ -21,7 +21,7 @@ use Rattle.replica.specs.State.{State}
 use Rattle.store.specs.Requests.{requestAt}
 use Rattle.replica.specs.Promises.{Kept}
 use Rattle.replica.specs.internal.Model.{planOf, bookOf, Inv}
-use Rattle.settling.specs.Settling.{numberRefusal, heldAnswer}
+use Rattle.settling.specs.Settling.{earlyRefusal, waitingAnswer}
 use Rattle.replica.proofs.KeptLaws.{kept-refused}
 use Rattle.settling.proofs.SettlingHeldLaws.{keptAt, strongAt, contextAt, sound-plan, good-widened, HeldAt, held-request}
 use Rattle.replica.proofs.RequestLaws.{held-none}
@@ -47,45 +47,18 @@ module _ (p : State) (n : Number) where
       → refusal (bookOf p) (commit n) ≡ refused.notHere
   absent-refused inv e f = not-bad e ∙ ap (foundRefusal (planOf p) n) (held-none _ inv n (good-widened inv e) f)
 
--- ---- by the number alone
+-- ---- without a context
 
-module _ {p : State} {n : Number} (inv : Inv p) where
-  pub kept-by-number : {word : ℕ} {a : Answer} → word ≡ numberRefusal (p .panels) (p .held) n → (word ≡ refused.accepted → ⊥)
-      → a ≡ refusedWith word noNumber → Kept p (commit n) (record { answer = a; state = p })
-  unfolding numberRefusal
-  kept-by-number {word} {a} e out answered = go (badNumber (p .panels) n) (member (p .held) n) refl refl e
-    where
-      kept : refusal (bookOf p) (commit n) ≡ word → eqb word refused.waits ≡ false → Kept p (commit n) (record { answer = a; state = p })
-      kept r other = kept-refused p (commit n) word a inv r out (answered ∙ ap (refusedWith word) (sym (names-none p n word r other)))
-
-      go : (bad here : Bool) → badNumber (p .panels) n ≡ bad → member (p .held) n ≡ here
-          → word ≡ met bad refused.badNumber (met (not here) refused.notHere refused.accepted)
-          → Kept p (commit n) (record { answer = a; state = p })
-      go true here b h w = kept (bad-refused p n b ∙ sym w) (ap (λ (k : ℕ). eqb k refused.waits) w)
-      go false false b h w = kept (absent-refused p n inv b h ∙ sym w) (ap (λ (k : ℕ). eqb k refused.waits) w)
-      go false true b h w = absurd (out w)
-
-  -- a number that is not refused is good and held at its slot
-  pub number-passed : {word s : ℕ} → word ≡ numberRefusal (p .panels) (p .held) n → word ≡ refused.accepted → s ≡ slotOf n
-      → HeldAt p n s
-  unfolding numberRefusal
-  number-passed e z at =
-      let good = passed (badNumber (p .panels) n) refused.badNumber _ tt (sym e ∙ z) in
-      let here = passed (not (member (p .held) n)) refused.notHere refused.accepted tt (good .1) in
-      record { slot = at; good = good .0; here = not-false _ (here .0) }
-
--- ---- by the request that is held
+-- what is known of n and its slot s behind those tests
+pub record Judged (p : State) (n : Number) (s : ℕ) : Type 0 where
+  pub held-at : HeldAt p n s
+  pub strong : strongAt p s ≡ true
+  pub new : member (p .known) n ≡ false
 
 -- the tests of a held request, in order
 abbrev wordOf : Bool → Bool → Bool → ℕ
 wordOf strong known whole =
     met (not strong) refused.weak (met known refused.settledAlready (met (not whole) refused.waits refused.accepted))
-
-abbrev answerTo : Bool → Bool → Bool → Number → Answer
-answerTo strong known whole m =
-    cond (not strong) (refusedWith refused.weak noNumber)
-    (cond known (refusedWith refused.settledAlready noNumber)
-    (cond (not whole) (refusedWith refused.waits m) done))
 
 -- the request at slot s is to be settled under the number n: it is strong, it is not known, and its context is
 pub record Settles (p : State) (n : Number) (s : ℕ) : Type 0 where
@@ -117,35 +90,32 @@ module _ {p : State} {n : Number} {s : ℕ} (inv : Inv p) (h : HeldAt p n s) whe
   unfolding namedByRefusal requestAt bookOf planOf
   names-missing e = rw e (ap (missing (planOf p)) (held-request inv h))
 
-  module _ {a : Answer} (answered : a ≡ heldAnswer (strongAt p s) (contextAt p s) (p .known) n) where
-    pub kept-by-held : (a .refusal ≡ refused.accepted → ⊥) → Kept p (commit n) (record { answer = a; state = p })
-    unfolding heldAnswer
-    kept-by-held out = go (strongAt p s) (member (p .known) n) whole answered refusal-held
-      where
-        kept : (word : ℕ) (m : Number) → a ≡ refusedWith word m → refusal (bookOf p) (commit n) ≡ word
-            → namedByRefusal (bookOf p) (commit n) ≡ m → Kept p (commit n) (record { answer = a; state = p })
-        kept word m e r names =
-            kept-refused p (commit n) word a inv r (λ z. out (ap (λ (b : Answer). b .refusal) e ∙ z))
-            (e ∙ ap (refusedWith word) (sym names))
+  module _ (strong : strongAt p s ≡ true) (new : member (p .known) n ≡ false) {a : Answer}
+      (answered : a ≡ waitingAnswer (contextAt p s) (p .known)) where
+    -- the refusal by the last test
+    refusal-waiting : refusal (bookOf p) (commit n) ≡ wordOf true false whole
+    refusal-waiting = refusal-held ∙ rw (strong, new)
 
-        go : (strong known whole : Bool) → a ≡ answerTo strong known whole (lowestLacking (contextAt p s) (p .known))
-            → refusal (bookOf p) (commit n) ≡ wordOf strong known whole → Kept p (commit n) (record { answer = a; state = p })
-        go false known whole e r = kept refused.weak noNumber e r (names-none p n refused.weak r refl)
-        go true true whole e r = kept refused.settledAlready noNumber e r (names-none p n refused.settledAlready r refl)
-        go true false false e r = kept refused.waits _ e r (names-missing r)
-        go true false true e r = absurd (out (ap (λ (b : Answer). b .refusal) e))
+    pub kept-waiting : (a .refusal ≡ refused.accepted → ⊥) → Kept p (commit n) (record { answer = a; state = p })
+    unfolding waitingAnswer
+    kept-waiting out = go whole answered refusal-waiting
+      where
+        go : (b : Bool) → a ≡ cond (not b) (refusedWith refused.waits (lowestLacking (contextAt p s) (p .known))) done
+            → refusal (bookOf p) (commit n) ≡ wordOf true false b → Kept p (commit n) (record { answer = a; state = p })
+        go false e r =
+            kept-refused p (commit n) refused.waits a inv r (λ z. out (ap (λ (b : Answer). b .refusal) e ∙ z))
+            (e ∙ ap (refusedWith refused.waits) (sym (names-missing r)))
+        go true e r = absurd (out (ap (λ (b : Answer). b .refusal) e))
 
     pub settles : a .refusal ≡ refused.accepted → Settles p n s
-    unfolding heldAnswer
-    settles z =
-        go (strongAt p s) (member (p .known) n) whole refl refl refl (ap (λ (b : Answer). b .refusal) (sym answered) ∙ z)
+    unfolding waitingAnswer
+    settles z = go whole refl (ap (λ (b : Answer). b .refusal) (sym answered) ∙ z)
       where
-        go : (strong known whole : Bool) → strongAt p s ≡ strong → member (p .known) n ≡ known → subset (contextAt p s) (p .known) ≡ whole
-            → answerTo strong known whole (lowestLacking (contextAt p s) (p .known)) .refusal ≡ refused.accepted → Settles p n s
-        go false known whole es ek ew e = absurd (omega arith)
-        go true true whole es ek ew e = absurd (omega arith)
-        go true false false es ek ew e = absurd (omega arith)
-        go true false true es ek ew e = record { strong = es; new = ek; whole = ew }
+        go : (b : Bool) → subset (contextAt p s) (p .known) ≡ b
+            → cond (not b) (refusedWith refused.waits (lowestLacking (contextAt p s) (p .known))) done .refusal ≡ refused.accepted
+            → Settles p n s
+        go false ew e = absurd (omega arith)
+        go true ew e = record { strong = strong; new = new; whole = ew }
 
   -- ---- accepted
 
@@ -158,3 +128,46 @@ module _ {p : State} {n : Number} {s : ℕ} (inv : Inv p) (h : HeldAt p n s) whe
     unfolding requestAt planOf
     tentative-found =
         found-tentative (planOf p) (sound-plan inv) n (keptAt p s) (held-request inv h) (t .strong) (committed-known (t .strong) ∙ t .new)
+
+-- ---- the early refusals
+
+module _ {p : State} {n : Number} (inv : Inv p) where
+  pub kept-early : {word : ℕ} {a : Answer} → word ≡ earlyRefusal (p .panels) (p .held) (p .known) (p .operations) n
+      → (word ≡ refused.accepted → ⊥) → a ≡ refusedWith word noNumber → Kept p (commit n) (record { answer = a; state = p })
+  unfolding earlyRefusal
+  kept-early {word} {a} e out answered =
+      go (badNumber (p .panels) n) (member (p .held) n) (strongAt p (slotOf n)) (member (p .known) n) refl refl refl refl e
+    where
+      kept : refusal (bookOf p) (commit n) ≡ word → eqb word refused.waits ≡ false → Kept p (commit n) (record { answer = a; state = p })
+      kept r other = kept-refused p (commit n) word a inv r out (answered ∙ ap (refusedWith word) (sym (names-none p n word r other)))
+
+      -- of a held request
+      held-word : badNumber (p .panels) n ≡ false → member (p .held) n ≡ true
+          → refusal (bookOf p) (commit n)
+          ≡ wordOf (strongAt p (slotOf n)) (member (p .known) n) (subset (contextAt p (slotOf n)) (p .known))
+      held-word b h = refusal-held inv (record { slot = refl; good = b; here = h })
+
+      go : (bad here strong known : Bool) → badNumber (p .panels) n ≡ bad → member (p .held) n ≡ here → strongAt p (slotOf n) ≡ strong
+          → member (p .known) n ≡ known
+          → word ≡ met bad refused.badNumber (met (not here) refused.notHere
+          (met (not strong) refused.weak (met known refused.settledAlready refused.accepted)))
+          → Kept p (commit n) (record { answer = a; state = p })
+      go true here strong known b h s k w = kept (bad-refused p n b ∙ sym w) (ap (λ (k : ℕ). eqb k refused.waits) w)
+      go false false strong known b h s k w = kept (absent-refused p n inv b h ∙ sym w) (ap (λ (k : ℕ). eqb k refused.waits) w)
+      go false true false known b h s k w = kept ((rw s at (held-word b h)) ∙ sym w) (ap (λ (k : ℕ). eqb k refused.waits) w)
+      go false true true true b h s k w = kept ((rw (s, k) at (held-word b h)) ∙ sym w) (ap (λ (k : ℕ). eqb k refused.waits) w)
+      go false true true false b h s k w = absurd (out w)
+
+  pub early-passed : {word s : ℕ} → word ≡ earlyRefusal (p .panels) (p .held) (p .known) (p .operations) n → word ≡ refused.accepted
+      → s ≡ slotOf n → Judged p n s
+  unfolding earlyRefusal
+  early-passed e z at =
+      let good = passed (badNumber (p .panels) n) refused.badNumber _ tt (sym e ∙ z) in
+      let here = passed (not (member (p .held) n)) refused.notHere _ tt (good .1) in
+      let strong = passed (not (strongAt p (slotOf n))) refused.weak _ tt (here .1) in
+      let new = passed (member (p .known) n) refused.settledAlready refused.accepted tt (strong .1) in
+      record {
+        held-at = record { slot = at; good = good .0; here = not-false _ (here .0) };
+        strong = ap (strongAt p) at ∙ not-false _ (strong .0);
+        new = new .0;
+      }

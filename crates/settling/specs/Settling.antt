@@ -4,16 +4,17 @@ use Prim.Native.Nat.{ℕ}
 use mathlib.Core.Path.{_≡_}
 use mathlib.Core.Bool.{Bool, not, cond}
 use mathlib.Core.List.{List}
-use lib.ListN.{length}
+use lib.ListN.{length, getD}
 use lib.Dec.{eqb}
 use denote.Ref.{RefT}
 use denote.Triple.Both.{Both}
 use Rattle.sets.specs.declared.Context.{Context}
 use Rattle.numbers.specs.declared.Number.{Number}
 use Rattle.numbers.specs.Numbers.{mostPanels, noNumber, badNumber}
-use Rattle.numbers.specs.internal.Slots.{GoodNumber}
+use Rattle.numbers.specs.internal.Slots.{GoodNumber, slotOf}
 use Rattle.sets.specs.Sets.{setOf, member, subset, lowestLacking}
 use Rattle.request.specs.Refusal as refused
+use Rattle.store.specs.Requests.{askedIn}
 use Rattle.creek.specs.declared.Answer.{Answer}
 use Rattle.creek.specs.Plan.{met}
 use Rattle.creek.specs.Book.{commit}
@@ -21,18 +22,18 @@ use Rattle.creek.specs.Replies.{stableMark, reply, done, refusedWith}
 use Rattle.replica.specs.State.{State}
 use Rattle.replica.specs.internal.Parts.{Asks, KeptBy}
 
--- by the number alone, with those numbers held: bad number, not here
-unfoldable pub numberRefusal : ℕ → Context → Number → ℕ
-numberRefusal panels held n =
-    met (badNumber panels n) refused.badNumber (met (not (member held n)) refused.notHere refused.accepted)
+-- what needs no context, with those numbers held and known and what those held ask for: bad number, not here, weak, settled already
+unfoldable pub earlyRefusal : ℕ → Context → Context → List ℕ → Number → ℕ
+earlyRefusal panels held known operations n =
+    met (badNumber panels n) refused.badNumber
+    (met (not (member held n)) refused.notHere
+    (met (not (askedIn (getD operations (slotOf n) 0) .strong)) refused.weak
+    (met (member known n) refused.settledAlready
+    refused.accepted)))
 
--- of a request held under the number n, with those numbers known: weak, settled already, waits with the missing number; or accepted
-unfoldable pub heldAnswer : Bool → Context → Context → Number → Answer
-heldAnswer strong context known n =
-    cond (not strong) (refusedWith refused.weak noNumber)
-    (cond (member known n) (refusedWith refused.settledAlready noNumber)
-    (cond (not (subset context known)) (refusedWith refused.waits (lowestLacking context known))
-    done))
+-- of a request with that context, with those numbers known: waits with the missing number, or accepted
+unfoldable pub waitingAnswer : Context → Context → Answer
+waitingAnswer context known = cond (not (subset context known)) (refusedWith refused.waits (lowestLacking context known)) done
 
 -- how many stay executed where the comparison up to `last`, behind which all agree, ended at `start`
 abbrev pub agreed : ℕ → ℕ → ℕ → ℕ

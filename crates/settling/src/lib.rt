@@ -9,11 +9,13 @@ use numbers::Number;
 use request::refusal;
 use sets::Context;
 ghost use mathlib.Core.Path.{_≡_};
+ghost use Prim.Native.Nat.{_≤_};
+ghost use Rattle.numbers.specs.Numbers.{mostPanels};
 ghost use Rattle.numbers.specs.internal.Slots.{slotOf};
 ghost use Rattle.sets.specs.Sets.{setOf};
 ghost use Rattle.slots.specs.Marks.{Marked};
 ghost use Rattle.creek.specs.Replies.{replyAnswer};
-ghost use Rattle.settling.specs.Settling.{numberRefusal, heldAnswer, agreed, settledAnswer, MarkAsks};
+ghost use Rattle.settling.specs.Settling.{earlyRefusal, waitingAnswer, agreed, settledAnswer, MarkAsks};
 ghost use Rattle.settling.specs.Settling.{lentNow, lentEntry, lentExit, CommitAsks, CommitKept};
 
 // Settle the request of number n.
@@ -42,17 +44,16 @@ pub fn commit<'a>(
         (lentExit committed executed commits held known awaiting clocks operations contexts order stack responses settled)
         (replyAnswer r) ⌝ }
 {
-    let refusal = number_refusal(panels, held, n);
+    let refusal = early_refusal(panels, held, known, operations, n);
     if refusal != refusal::ACCEPTED {
         return replica::refusing(refusal);
     }
     let slot = numbers::slot_of(n);
-    let asked = store::asked_at(operations, slot as usize);
     let context = store::context_at(contexts, slot as usize);
     let knows = *known;
-    let judged = held_reply(asked.strong, context, Context { words: knows }, n);
-    if judged.refusal != refusal::ACCEPTED {
-        return judged;
+    let waiting = waiting_reply(context, Context { words: knows });
+    if waiting.refusal != refusal::ACCEPTED {
+        return waiting;
     }
     let from = *committed;
     let before = *executed;
@@ -79,7 +80,7 @@ pub fn commit<'a>(
     reply
 }
 
-// The same, with its answer.
+// The same, with its answer; what needs no context to be refused is refused before the call is made.
 pub fn commit_answer<'a>(
     panels: u8,
     ordered: usize,
@@ -104,6 +105,10 @@ pub fn commit_answer<'a>(
         (lentEntry committed executed commits held known awaiting clocks operations contexts order stack responses settled) n
         (lentExit committed executed commits held known awaiting clocks operations contexts order stack responses settled) a ⌝ }
 {
+    let refusal = early_refusal(panels, held, known, operations, n);
+    if refusal != refusal::ACCEPTED {
+        return replica::refused(refusal);
+    }
     let reply = commit(
         panels,
         ordered,
@@ -125,9 +130,16 @@ pub fn commit_answer<'a>(
     replica::answer_of(reply)
 }
 
-// The refusal of a settlement by its number alone, with those numbers held.
-fn number_refusal(panels: u8, held: &[u64; 8], n: Number) -> u8
-    ensures { λ r. ⌜ r ≡ numberRefusal panels (setOf (now (held .entry))) n ⌝ }
+// The refusal of a settlement that needs no context, or none: bad number, not here, weak, settled already.
+fn early_refusal<'a>(
+    panels: u8,
+    held: &'a [u64; 8],
+    known: &'a [u64; 8],
+    operations: &'a [u64; 512],
+    n: Number,
+) -> u8
+    requires { ⌜ panels ≤ mostPanels ⌝ }
+    ensures { λ r. ⌜ r ≡ earlyRefusal panels (setOf (now (held .entry))) (setOf (now (known .entry))) (now (operations .entry)) n ⌝ }
 {
     if numbers::bad(panels, n) {
         return refusal::BAD_NUMBER;
@@ -135,21 +147,22 @@ fn number_refusal(panels: u8, held: &[u64; 8], n: Number) -> u8
     if !store::member(held, n) {
         return refusal::NOT_HERE;
     }
+    let slot = numbers::slot_of(n);
+    let asked = store::asked_at(operations, slot as usize);
+    if !asked.strong {
+        return refusal::WEAK;
+    }
+    // A held strong request is known exactly where it is committed.
+    if store::member(known, n) {
+        return refusal::SETTLED_ALREADY;
+    }
     refusal::ACCEPTED
 }
 
-// The reply that refuses the settlement of the request of that strength and context held under the number n, with those numbers known, or
-// no refusal.
-fn held_reply(strong: bool, context: Context, known: Context, n: Number) -> Reply
-    ensures { λ r. ⌜ replyAnswer r ≡ heldAnswer strong context known n ⌝ }
+// The reply that the settlement of a request with that context waits, with those numbers known, or no refusal.
+fn waiting_reply(context: Context, known: Context) -> Reply
+    ensures { λ r. ⌜ replyAnswer r ≡ waitingAnswer context known ⌝ }
 {
-    if !strong {
-        return replica::refusing(refusal::WEAK);
-    }
-    // A held strong request is known exactly where it is committed.
-    if sets::member(known, n) {
-        return replica::refusing(refusal::SETTLED_ALREADY);
-    }
     if !sets::is_subset(context, known) {
         let missing = sets::lowest_lacking(context, known);
         return Reply {

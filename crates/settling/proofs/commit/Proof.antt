@@ -3,22 +3,21 @@ use Prim.Native.Nat.{_≤_}
 use native.Mathlib.Omega.{arith}
 use mathlib.Core.Path.{_≡_, refl, ap, subst, _∙_}
 use mathlib.Core.Bool.{Bool, _&&_}
-use lib.ListN.{getD}
 use lib.Dec.{leb}
 use Rattle.slots.specs.Slots.{IsSlot}
 use Rattle.slots.specs.Settlement.{Settled}
 use Rattle.slots.specs.Marks.{Marked}
 use Rattle.numbers.specs.internal.Slots.{slotOf}
-use Rattle.store.specs.Requests.{askedIn, contextAt}
+use Rattle.store.specs.Requests.{contextAt}
 use Rattle.sets.specs.declared.Context.{Context}
 use Rattle.sets.specs.Sets.{setOf}
 use Rattle.creek.specs.internal.Sound.{mostRequests}
 use Rattle.replica.specs.State.{State}
 use Rattle.replica.specs.internal.Model.{Inv}
 use Rattle.creek.specs.Replies.{replyAnswer}
-use Rattle.settling.specs.Settling.{heldAnswer, lentNow, commitParts}
-use Rattle.settling.proofs.SettlingHeldLaws.{HeldAt, held-slot, good-widened}
-use Rattle.settling.proofs.SettlingRefusalLaws.{kept-by-number, number-passed, Settles, kept-by-held, settles}
+use Rattle.settling.specs.Settling.{waitingAnswer, lentNow, commitParts}
+use Rattle.settling.proofs.SettlingHeldLaws.{HeldAt, few-panels, held-slot, good-widened}
+use Rattle.settling.proofs.SettlingRefusalLaws.{Judged, Settles, kept-early, early-passed, kept-waiting, settles}
 use Rattle.settling.proofs.SettlingLaws.{commits-fit, moves-asks, start-asks, settled-kept}
 use borrow.Author.Needs.{needs}
 use Rattle.settling.proofs.commit.Statement.{statement}
@@ -28,14 +27,14 @@ use Rattle.settling.proofs.commit.Tie as tie
 
 -- its start, from where the slot is known
 abbrev start : tie.After-slot-of → tie.Start
-start c = c .before .before .before
+start c = c .before .before .before .before
 
 -- where the context is read, from past both tests
 abbrev read : tie.Else2 → tie.After-context-at
 read c = c .before .before .before .before
 
 abbrev slotted : tie.Else2 → tie.After-slot-of
-slotted c = read c .before .before
+slotted c = read c .before
 
 -- past both tests, from where the order is settled
 abbrev tested : tie.After-settle-moving → tie.Else2
@@ -70,32 +69,31 @@ lent a =
 
 -- ---- what is known there
 
--- past the first test the number is held at the slot
+-- past the first tests the number is held at the slot, strong and not known
+judged-at : (c : tie.After-slot-of) (p : State) → Inv (lent (start c) p) → Judged (lent (start c) p) (start c .args .n) (c .slot-of .result)
+judged-at c p inv =
+    early-passed {p = lent (start c) p} inv (c .before .before .early-refusal .ensures) (c .before .if1 .left) (c .slot-of .ensures)
+
 held-at : (c : tie.After-slot-of) (p : State) → Inv (lent (start c) p) → HeldAt (lent (start c) p) (start c .args .n) (c .slot-of .result)
-held-at c p inv =
-    number-passed {p = lent (start c) p} inv (c .before .before .number-refusal .ensures) (c .before .if1 .left) (c .slot-of .ensures)
+held-at c p inv = judged-at c p inv .held-at
 
 slot-of-is : (c : tie.After-slot-of) → IsSlot (c .slot-of .result)
 slot-of-is c = let a = start c in held-slot {p = lent a (a .pre .panel)} (a .pre .invariant) (held-at c (a .pre .panel) (a .pre .invariant))
 
--- the answer by what is kept at the slot
-answer-is : (c : tie.After-held-reply)
-    → let at = c .before .before in
-    let slot = at .before .before in
+-- the answer by the context that is kept at the slot
+answer-is : (c : tie.After-waiting-reply)
+    → let slot = c .before .before .before in
     let a = start slot in
-    replyAnswer (c .held-reply .result)
-    ≡ heldAnswer (askedIn (getD (a .args .operations .now) (slot .slot-of .result) 0) .strong)
-    (contextAt (a .args .contexts .now) (slot .slot-of .result)) (setOf (a .args .known .now)) (a .args .n)
-answer-is c =
-    let at = c .before .before in
-    c .held-reply .ensures ∙ rw (at .before .asked-at .ensures, at .context-at .ensures)
+    replyAnswer (c .waiting-reply .result) ≡ waitingAnswer (contextAt (a .args .contexts .now) (slot .slot-of .result)) (setOf (a .args .known .now))
+answer-is c = c .waiting-reply .ensures ∙ rw (c .before .before .context-at .ensures)
 
 -- past the second it is to be settled
 to-settle : (c : tie.Else2) (p : State) → let slot = slotted c in Inv (lent (start slot) p)
     → Settles (lent (start slot) p) (start slot .args .n) (slot .slot-of .result)
 to-settle c p inv =
     let slot = slotted c in
-    settles {p = lent (start slot) p} inv (held-at slot p inv) (answer-is (c .before .before)) (c .if2 .left)
+    let judged = judged-at slot p inv in
+    settles {p = lent (start slot) p} inv (judged .held-at) (judged .strong) (judged .new) (answer-is (c .before .before)) (c .if2 .left)
 
 -- the order is settled with the context that is kept
 settled-by : (c : tie.After-settle-moving)
@@ -123,45 +121,41 @@ committed-fits c = omega (arith, settled-by c, start (slotted (tested c)) .pre .
 
 -- ---- what the function needs
 
-number-refusal-requires : tie.Need-number-refusal-requires
-number-refusal-requires c κs = search needs
+early-refusal-requires : tie.Need-early-refusal-requires
+early-refusal-requires c κs = let a = c .before in few-panels {p = lent a (a .pre .panel)} (a .pre .invariant)
 
 refusing-requires : tie.Need-refusing-requires
 refusing-requires c κs = search needs
 
 returns : tie.Need-returns
 returns c =
-    let a = c .before .before .before in
+    let a = c .before .before .before .before in
     record {
       kept = λ p inv.
-          kept-by-number {p = lent a p} inv (c .before .before .number-refusal .ensures) (c .before .if1 .taken)
+          kept-early {p = lent a p} inv (c .before .before .early-refusal .ensures) (c .before .if1 .taken)
           (ap replyAnswer (c .refusing .ensures));
     }
 
 slot-of-requires : tie.Need-slot-of-requires
 slot-of-requires c κs = search needs
 
-cast-asked-at : tie.Need-cast-asked-at
-cast-asked-at c = search needs
-
-asked-at-requires : tie.Need-asked-at-requires
-asked-at-requires c κs = slot-of-is c
-
 cast-context-at : tie.Need-cast-context-at
 cast-context-at c = search needs
 
 context-at-requires : tie.Need-context-at-requires
-context-at-requires c κs = let slot = c .before in (slot-of-is slot, start slot .pre .invariant .lengths .requests .contexts)
+context-at-requires c κs = (slot-of-is c, start c .pre .invariant .lengths .requests .contexts)
 
-held-reply-requires : tie.Need-held-reply-requires
-held-reply-requires c κs = search needs
+waiting-reply-requires : tie.Need-waiting-reply-requires
+waiting-reply-requires c κs = search needs
 
 returns-2 : tie.Need-returns-2
 returns-2 c =
     let found = c .before .before in
-    let slot = found .before .before .before .before in
+    let slot = found .before .before .before in
     record {
-      kept = λ p inv. kept-by-held {p = lent (start slot) p} inv (held-at slot p inv) (answer-is found) (c .if2 .taken);
+      kept = λ p inv.
+          let judged = judged-at slot p inv in
+          kept-waiting {p = lent (start slot) p} inv (judged .held-at) (judged .strong) (judged .new) (answer-is found) (c .if2 .taken);
     }
 
 settle-moving-requires : tie.Need-settle-moving-requires
@@ -262,15 +256,13 @@ pub commit-spec : {M : Type 1} → statement M
 commit-spec =
     tie.close
     (tie.spec
-    number-refusal-requires
+    early-refusal-requires
     refusing-requires
     returns
     slot-of-requires
-    cast-asked-at
-    asked-at-requires
     cast-context-at
     context-at-requires
-    held-reply-requires
+    waiting-reply-requires
     returns-2
     settle-moving-requires
     mark-requires

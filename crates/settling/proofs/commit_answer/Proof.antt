@@ -1,16 +1,41 @@
--- `settling::commit_answer` meets its contract by that of `commit`.
+-- `settling::commit_answer` meets its contract by that of `commit`, and by the early refusals.
+use mathlib.Core.Path.{refl}
+use Rattle.replica.specs.State.{State}
+use Rattle.settling.specs.Settling.{lentNow, commitParts}
+use Rattle.settling.proofs.SettlingHeldLaws.{few-panels}
+use Rattle.settling.proofs.SettlingRefusalLaws.{kept-early}
 use borrow.Author.Needs.{needs}
 use Rattle.settling.proofs.commit_answer.Statement.{statement}
 use Rattle.settling.proofs.commit_answer.Tie as tie
 
+-- a panel with the parts lent
+abbrev lent : tie.Start → State → State
+lent a =
+    commitParts (a .args .panels) (a .args .ordered) (lentNow (a .args .committed) (a .args .executed) (a .args .commits) (a .args .held)
+    (a .args .known) (a .args .awaiting) (a .args .clocks) (a .args .operations) (a .args .contexts) (a .args .order) (a .args .stack)
+    (a .args .responses) (a .args .settled))
+
+early-refusal-requires : tie.Need-early-refusal-requires
+early-refusal-requires c κs = let a = c .before in few-panels {p = lent a (a .pre .panel)} (a .pre .invariant)
+
+refused-requires : tie.Need-refused-requires
+refused-requires c κs = search needs
+
+returns : tie.Need-returns
+returns c =
+    let told = c .before .before in
+    let a = told .before .before in
+    record { kept = λ p inv. kept-early {p = lent a p} inv (told .early-refusal .ensures) (c .before .if1 .taken) (c .refused .ensures) }
+
 commit-requires : tie.Need-commit-requires
-commit-requires c κs = c .before .before .before .before .before .before .before .pre
+commit-requires c κs = c .before .before .before .before .before .before .before .before .before .before .pre
 
 answer-of-requires : tie.Need-answer-of-requires
 answer-of-requires c κs = search needs
 
-returns : tie.Need-returns
-returns c = rw (c .answer-of .ensures) (c .before .commit .ensures)
+returns-2 : tie.Need-returns-2
+returns-2 c = rw (c .answer-of .ensures) (c .before .commit .ensures)
 
 pub commit-answer-spec : {M : Type 1} → statement M
-commit-answer-spec = tie.close (tie.spec commit-requires answer-of-requires returns)
+commit-answer-spec =
+    tie.close (tie.spec early-refusal-requires refused-requires returns commit-requires answer-of-requires returns-2)
