@@ -14,11 +14,12 @@ ghost use Rattle.numbers.specs.Numbers.{mostPanels};
 ghost use Rattle.numbers.specs.internal.Slots.{slotOf};
 ghost use Rattle.sets.specs.Sets.{setOf};
 ghost use Rattle.slots.specs.Marks.{Marked};
+ghost use Rattle.request.specs.Refusal.{accepted};
 ghost use Rattle.creek.specs.Replies.{replyAnswer};
 ghost use Rattle.settling.specs.Settling.{earlyRefusal, waitingAnswer, agreed, settledAnswer, MarkAsks};
 ghost use Rattle.settling.specs.Settling.{lentNow, lentEntry, lentExit, CommitAsks, CommitKept};
 
-// Settle the request of number n.
+// Settle the request of number n; what is refused without its context costs no call of `settle`.
 pub fn commit<'a>(
     panels: u8,
     ordered: usize,
@@ -48,39 +49,27 @@ pub fn commit<'a>(
     if refusal != refusal::ACCEPTED {
         return replica::refusing(refusal);
     }
-    let slot = numbers::slot_of(n);
-    let context = store::context_at(contexts, slot as usize);
-    let knows = *known;
-    let waiting = waiting_reply(context, Context { words: knows });
-    if waiting.refusal != refusal::ACCEPTED {
-        return waiting;
-    }
-    let from = *committed;
-    let before = *executed;
-    let words = context.words;
-    let moved = slots::settle_moving(order, clocks, from, ordered, &words, settled, slot);
-    let count = moved.committed;
-    mark(settled, &words, n);
-    // What is executed agrees with the order up to where the settlement changes it, and behind the last slot that it moves.
-    let same = replica::lower(before, from);
-    let last = replica::lower(before, moved.end);
-    let start = slots::common_start(stack, last, order, ordered, same);
-    let stays = agreed(before, last, start);
-    // The request is the last committed: it stays executed where the mark lies behind it, and its response was kept at its place.
-    let response = responses[count - 1];
-    let awaited = store::member(awaiting, n);
-    let due = awaited & (count <= stays);
-    store::join(known, n);
-    let reply = settled_reply(due, response);
-    replica::end_waiting(awaiting, n, reply.mark);
-    *committed = count;
-    *executed = stays;
-    let settlements = *commits;
-    *commits = settlements + 1;
-    reply
+    settle(
+        panels,
+        ordered,
+        committed,
+        executed,
+        commits,
+        held,
+        known,
+        awaiting,
+        clocks,
+        operations,
+        contexts,
+        order,
+        stack,
+        responses,
+        settled,
+        n,
+    )
 }
 
-// The same, with its answer; what needs no context to be refused is refused before the call is made.
+// The same, with its answer.
 pub fn commit_answer<'a>(
     panels: u8,
     ordered: usize,
@@ -109,7 +98,7 @@ pub fn commit_answer<'a>(
     if refusal != refusal::ACCEPTED {
         return replica::refused(refusal);
     }
-    let reply = commit(
+    let reply = settle(
         panels,
         ordered,
         committed,
@@ -157,6 +146,66 @@ fn early_refusal<'a>(
         return refusal::SETTLED_ALREADY;
     }
     refusal::ACCEPTED
+}
+
+// The request of number n, which no test without its context refuses, is settled or waits; `panels`, `held` and `operations` stand for the
+// contract alone.
+fn settle<'a>(
+    panels: u8,
+    ordered: usize,
+    committed: &mut usize,
+    executed: &mut usize,
+    commits: &mut u32,
+    held: &'a [u64; 8],
+    known: &mut [u64; 8],
+    awaiting: &mut [u64; 8],
+    clocks: &'a [u32; 512],
+    operations: &'a [u64; 512],
+    contexts: &'a [u64; 4096],
+    order: &mut [u16; 512],
+    stack: &'a [u16; 512],
+    responses: &'a [u32; 512],
+    settled: &mut [u64; 8],
+    n: Number,
+) -> Reply
+    requires { ⌜ CommitAsks panels ordered
+        (lentNow committed executed commits held known awaiting clocks operations contexts order stack responses settled) ⌝ }
+    requires { ⌜ earlyRefusal panels (setOf (now held)) (setOf (now known)) (now operations) n ≡ accepted ⌝ }
+    ensures { λ r. ⌜ CommitKept panels ordered
+        (lentEntry committed executed commits held known awaiting clocks operations contexts order stack responses settled) n
+        (lentExit committed executed commits held known awaiting clocks operations contexts order stack responses settled)
+        (replyAnswer r) ⌝ }
+{
+    let slot = numbers::slot_of(n);
+    let context = store::context_at(contexts, slot as usize);
+    let knows = *known;
+    let waiting = waiting_reply(context, Context { words: knows });
+    if waiting.refusal != refusal::ACCEPTED {
+        return waiting;
+    }
+    let from = *committed;
+    let before = *executed;
+    let words = context.words;
+    let moved = slots::settle_moving(order, clocks, from, ordered, &words, settled, slot);
+    let count = moved.committed;
+    mark(settled, &words, n);
+    // What is executed agrees with the order up to where the settlement changes it, and behind the last slot that it moves.
+    let same = replica::lower(before, from);
+    let last = replica::lower(before, moved.end);
+    let start = slots::common_start(stack, last, order, ordered, same);
+    let stays = agreed(before, last, start);
+    // The request is the last committed: it stays executed where the mark lies behind it, and its response was kept at its place.
+    let response = responses[count - 1];
+    let awaited = store::member(awaiting, n);
+    let due = awaited & (count <= stays);
+    store::join(known, n);
+    let reply = settled_reply(due, response);
+    replica::end_waiting(awaiting, n, reply.mark);
+    *committed = count;
+    *executed = stays;
+    let settlements = *commits;
+    *commits = settlements + 1;
+    reply
 }
 
 // The reply that the settlement of a request with that context waits, with those numbers known, or no refusal.

@@ -1,5 +1,5 @@
--- `settling::commit_answer` meets its contract by that of `commit`, and by the early refusals.
-use mathlib.Core.Path.{refl}
+-- `settling::commit_answer` meets its contract by that of `settle`, and by the early refusals.
+use mathlib.Core.Path.{sym, _∙_}
 use Rattle.replica.specs.State.{State}
 use Rattle.settling.specs.Settling.{lentNow, commitParts}
 use Rattle.settling.proofs.SettlingHeldLaws.{few-panels}
@@ -27,15 +27,17 @@ returns c =
     let a = told .before .before in
     record { kept = λ p inv. kept-early {p = lent a p} inv (told .early-refusal .ensures) (c .before .if1 .taken) (c .refused .ensures) }
 
-commit-requires : tie.Need-commit-requires
-commit-requires c κs = c .before .before .before .before .before .before .before .before .before .before .pre
+settle-requires : tie.Need-settle-requires
+settle-requires c κs =
+    let else = c .before .before .before .before .before .before .before in
+    (else .before .before .before .pre, sym (else .before .early-refusal .ensures) ∙ else .if1 .left)
 
 answer-of-requires : tie.Need-answer-of-requires
 answer-of-requires c κs = search needs
 
 returns-2 : tie.Need-returns-2
-returns-2 c = rw (c .answer-of .ensures) (c .before .commit .ensures)
+returns-2 c = rw (c .answer-of .ensures) (c .before .settle .ensures)
 
 pub commit-answer-spec : {M : Type 1} → statement M
 commit-answer-spec =
-    tie.close (tie.spec early-refusal-requires refused-requires returns commit-requires answer-of-requires returns-2)
+    tie.close (tie.spec early-refusal-requires refused-requires returns settle-requires answer-of-requires returns-2)

@@ -1,6 +1,6 @@
 -- `settling::early_refusal` meets its contract: each answer is what is left of the definition by the tests passed.
 use mathlib.Core.Path.{_≡_, _∙_, sym, ap}
-use mathlib.Core.Bool.{Bool, false, not}
+use mathlib.Core.Bool.{false, not}
 use lib.ListN.{getD}
 use borrow.Author.Needs.{needs}
 use Rattle.numbers.specs.Numbers.{badNumber}
