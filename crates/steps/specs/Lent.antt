@@ -5,7 +5,7 @@ use denote.Ref.{RefT}
 use denote.Triple.Both.{Both}
 use Rattle.counters.specs.Counted.{undosCounted, executionsCounted}
 use Rattle.replica.specs.State.{State}
-use Rattle.replica.specs.internal.Cores.{packed, coreIn, withBoard}
+use Rattle.replica.specs.internal.Cores.{Core, packed, coreIn, withBoard}
 use Rattle.replica.specs.internal.Parts.{withCounters}
 
 -- what a reference refers to at a function's entry and at its exit
