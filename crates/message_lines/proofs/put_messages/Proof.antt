@@ -16,9 +16,9 @@ use Rattle.report.specs.Sizes.{mostMessageBytes}
 use Rattle.report.proofs.SizeLaws.{unread-short}
 use Rattle.wire.specs.Layout.{leastMessage}
 use Rattle.printed.specs.Printout.{mostInput}
-use Rattle.sheet.proofs.PuttingLaws.{Putting, panelIn, stateAfter, put-start, line-room, put-last, within, put-step, put-end}
-use Rattle.sheet.proofs.put_messages.Statement.{statement}
-use Rattle.sheet.proofs.put_messages.Tie as tie
+use Rattle.message_lines.proofs.LoopLaws.{Putting, panelIn, stateAfter, put-start, line-room, put-last, within, put-step, put-end}
+use Rattle.message_lines.proofs.put_messages.Statement.{statement}
+use Rattle.message_lines.proofs.put_messages.Tie as tie
 
 -- the memory with those numbers and arrays
 abbrev memory : ℕ → PanelNo → (committed ordered executed stacked commits clock events undos executions : ℕ)

@@ -8,10 +8,10 @@ use Rattle.report.specs.Lines.{messageLine}
 use Rattle.report.specs.Sizes.{mostMessageBytes}
 use Rattle.report.proofs.SizeLaws.{message-short}
 use Rattle.wire.specs.Reader.{kindAt}
-use Rattle.sheet.proofs.PuttingLaws.{line-told}
+use Rattle.message_lines.proofs.LoopLaws.{line-told}
 use borrow.Author.Needs.{needs}
-use Rattle.sheet.proofs.put_line.Statement.{statement}
-use Rattle.sheet.proofs.put_line.Tie as tie
+use Rattle.message_lines.proofs.put_line.Statement.{statement}
+use Rattle.message_lines.proofs.put_line.Tie as tie
 
 abbrev start : tie.After-number-at → tie.Start
 start c = c .before .before .before .before

@@ -1,0 +1,24 @@
+-- What putting the line of a message promises, and what putting those of all that is found does.
+use Prim.Native.Nat.{ℕ, _+_, _*_, _≤_}
+use mathlib.Core.Path.{_≡_}
+use mathlib.Core.List.{List}
+use Rattle.text.specs.Placed.{Placed}
+use Rattle.report.specs.Sizes.{mostMessageBytes}
+use Rattle.replica.specs.State.{State}
+use Rattle.replica.specs.internal.Model.{model, Inv}
+use Rattle.wire.specs.Message.{BusMessage}
+use Rattle.wire.specs.Reader.{message, readAt}
+use Rattle.runs.specs.Found.{foundFrom}
+use Rattle.printed.specs.Printout.{afterAll, lineOfMessage, messageLines, shopBytes, mostMessages}
+
+-- the line of the message that stands at the place `from` of s was put
+pub record LinePut (s : List ℕ) (from place refusal undone : ℕ) (out : List ℕ) (at : ℕ) (out′ : List ℕ) (behind : ℕ) : Type 0 where
+  pub written : (m : BusMessage) (n : ℕ) → readAt s from ≡ message m n → Placed out at (lineOfMessage place m refusal undone) out′ behind
+  pub few : behind ≤ at + mostMessageBytes
+
+-- all that is found in the input was received by p, which is q then, and its lines were put
+pub record AllPut (p : State) (s out : List ℕ) (at : ℕ) (q : State) (out′ : List ℕ) (behind : ℕ) : Type 0 where
+  pub state : model q ≡ afterAll (model p) (foundFrom s shopBytes)
+  pub invariant : Inv q
+  pub lines : Placed out at (messageLines 1 (model p) (foundFrom s shopBytes)) out′ behind
+  pub few : behind ≤ at + mostMessages * mostMessageBytes

@@ -1,0 +1,148 @@
+// The messages of the printout: each that is found in the input is received by the panel, and its line is put into lent bytes.
+//
+// The panel's memory is lent whole, and the contract speaks of it as one memory.
+use numbers::PanelNo;
+use parts::integers;
+use parts::places;
+use parts::reading;
+ghost use Prim.Native.Nat.{_+_, _*_, _≤_};
+ghost use lib.ListN.{length};
+ghost use Rattle.report.specs.Sizes.{mostMessageBytes};
+ghost use Rattle.replica.specs.internal.Model.{Inv};
+ghost use Rattle.replica.specs.internal.Whole.{wholeNow, wholeEntry, wholeExit};
+ghost use Rattle.wire.specs.Layout.{leastMessage};
+ghost use Rattle.printed.specs.Printout.{shopBytes, mostMessages, mostInput};
+ghost use Rattle.message_lines.specs.LinesPut.{LinePut, AllPut};
+
+// P and the own panel, one byte each, in front of the messages.
+pub const SHOP_BYTES: usize = 2;
+
+// Puts the line of the message that stands at the place `from` of the input.
+fn put_line(
+    out: &mut [u8],
+    at: usize,
+    place: u64,
+    input: &[u8],
+    from: usize,
+    refusal: u8,
+    undone: u32,
+) -> usize
+    requires { ⌜ at + mostMessageBytes ≤ length (now out) ⌝ }
+    requires { ⌜ place ≤ mostInput ⌝ }
+    requires { ⌜ from + leastMessage ≤ length (now input) ⌝ }
+    ensures { λ r. ⌜ LinePut (now (input .entry)) from place refusal undone (now (out .entry)) at (now (out .exit)) r ⌝ }
+{
+    let kind_at = from + places::KIND_AT;
+    let kind = integers::integer_at(input, kind_at, places::KIND_WIDTH);
+    let number = reading::number_at(input, from);
+    let panel = number.panel.0;
+    let event = number.event.0;
+    report::put_message(
+        out,
+        at,
+        place,
+        kind,
+        panel as u64,
+        event as u64,
+        refusal as u64,
+        undone as u64,
+    )
+}
+
+// Receives what is found behind the shop's bytes, message by message, calls due steps until the panel is idle, and puts each line; what
+// cannot be read is the last.
+pub fn put_messages(
+    out: &mut [u8],
+    from: usize,
+    input: &[u8],
+    panels: u8,
+    own: PanelNo,
+    committed: &mut usize,
+    ordered: &mut usize,
+    executed: &mut usize,
+    stacked: &mut usize,
+    commits: &mut u32,
+    clock: &mut u32,
+    events: &mut u8,
+    undos: &mut u32,
+    executions: &mut u32,
+    held: &mut [u64; 8],
+    known: &mut [u64; 8],
+    awaiting: &mut [u64; 8],
+    clocks: &mut [u32; 512],
+    operations: &mut [u64; 512],
+    contexts: &mut [u64; 4096],
+    order: &mut [u16; 512],
+    stack: &mut [u16; 512],
+    registers: &mut [u32; 64],
+    saved: &mut [u64; 512],
+    responses: &mut [u32; 512],
+    settled: &mut [u64; 8],
+) -> usize
+    requires { ⌜ Inv
+        (wholeNow panels own committed ordered executed stacked commits clock events undos executions held known awaiting clocks
+        operations contexts order stack registers saved responses settled) ⌝ }
+    requires { ⌜ shopBytes ≤ length (now input) ⌝ }
+    requires { ⌜ length (now input) ≤ mostInput ⌝ }
+    requires { ⌜ from + mostMessages * mostMessageBytes ≤ length (now out) ⌝ }
+    ensures { λ r. ⌜ AllPut
+        (wholeEntry panels own committed ordered executed stacked commits clock events undos executions held known awaiting clocks
+        operations contexts order stack registers saved responses settled)
+        (now (input .entry)) (now (out .entry)) from
+        (wholeExit panels own committed ordered executed stacked commits clock events undos executions held known awaiting clocks
+        operations contexts order stack registers saved responses settled)
+        (now (out .exit)) r ⌝ }
+{
+    let mut at = SHOP_BYTES;
+    let mut behind = from;
+    let mut place: u64 = 1;
+    while at < input.len() {
+        let receipt = intake::receive(
+            input,
+            at,
+            panels,
+            own,
+            committed,
+            ordered,
+            executed,
+            commits,
+            held,
+            known,
+            awaiting,
+            clocks,
+            operations,
+            contexts,
+            order,
+            stack,
+            responses,
+            settled,
+        );
+        let refusal = receipt.answer.refusal;
+        let taken = receipt.taken;
+        if taken == 0 {
+            return report::put_unread(out, behind, place, refusal as u64);
+        }
+        let steps = due::run_due(
+            *committed,
+            *ordered,
+            executed,
+            stacked,
+            awaiting,
+            operations,
+            order,
+            stack,
+            registers,
+            saved,
+            responses,
+        );
+        let undone = steps.undos;
+        let undos_done = *undos + undone;
+        let executions_done = *executions + steps.executions;
+        *undos = undos_done;
+        *executions = executions_done;
+        behind = put_line(out, behind, place, input, at, refusal, undone);
+        at += taken;
+        place += 1;
+    }
+    behind
+}
