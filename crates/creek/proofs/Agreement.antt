@@ -10,7 +10,7 @@ use lib.ListN.{length, length-append}
 use Rattle.numbers.specs.declared.Number.{Number}
 use Rattle.request.specs.declared.Request.{Request}
 use Rattle.request.specs.Refusal as refused
-use Rattle.registers.specs.Replay.{replay}
+use Rattle.effects.specs.Replay.{replay}
 use Rattle.lists.specs.Lists.{one, count, find, isNil}
 use Rattle.lists.specs.Places.{All}
 use Rattle.lists.proofs.AllLaws.{all-weaken, all-append}

@@ -9,9 +9,9 @@ use Rattle.sets.specs.Sets.{sameWords, sameContext, allZero, isEmpty, namesFrom
 use Rattle.sets.specs.Sets.{lackedWords, difference, subset, lowestFrom, lowest, lowestLacking}
 use Rattle.request.specs.Order.{before}
 use Rattle.request.specs.Request.{sameRequest, badContext}
-use Rattle.registers.specs.Effect.{offBoard, added, claimed, amountMoved, moved, firstHeld, lowestHeld, allSet, allClaimed}
-use Rattle.registers.specs.Effect.{allClaimedResponse, exec, response}
-use Rattle.registers.specs.Replay.{replayOn, replay}
+use Rattle.effects.specs.Effect.{offBoard, added, claimed, amountMoved, moved, firstHeld, lowestHeld, allSet, allClaimed}
+use Rattle.effects.specs.Effect.{allClaimedResponse, exec, response}
+use Rattle.effects.specs.Replay.{replayOn, replay}
 use Rattle.creek.specs.Plan.{lastEvent, lastClock, entered, without, atLeast, made, committing, committingFound}
 use Rattle.creek.specs.Plan.{invokeRefusal, deliverRefusal, commitRefusal}
 use Rattle.creek.specs.Execution.{registers, adjusted, undone, undoRefusal, executedNext, executeRefusal}

@@ -10,7 +10,7 @@ use lib.Dec.{eqb}
 use borrow.Author.Tests.{eqb-true, eqb-false, eq-eqb}
 use Rattle.request.specs.declared.Request.{Request}
 use Rattle.request.specs.Refusal as refused
-use Rattle.registers.specs.Replay.{replay}
+use Rattle.effects.specs.Replay.{replay}
 use Rattle.lists.specs.Lists.{isNil}
 use Rattle.creek.specs.Plan.{order}
 use Rattle.creek.specs.Execution.{Execution, operations, registers, isIdle}

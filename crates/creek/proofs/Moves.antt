@@ -6,10 +6,10 @@ use Rattle.request.specs.declared.Operation.{Operation}
 use Rattle.request.specs.declared.Request.{Request}
 use Rattle.request.specs.Refusal as refused
 use Rattle.request.specs.Asked.{operationOf}
-use Rattle.registers.specs.Replay.{replay}
-use Rattle.registers.specs.Moves.{goodMove, sum}
-use Rattle.registers.proofs.ReplayLaws.{replay-more, replay-length}
-use Rattle.registers.proofs.SumLaws.{sum-exec}
+use Rattle.effects.specs.Replay.{replay}
+use Rattle.effects.specs.Moves.{goodMove, sum}
+use Rattle.effects.proofs.ReplayLaws.{replay-more, replay-length}
+use Rattle.effects.proofs.SumLaws.{sum-exec}
 use Rattle.creek.specs.Execution.{board, operations, registers, undone}
 use Rattle.creek.specs.Book.{undo, execute, refusal, accepted}
 use Rattle.creek.specs.Calls.{Replica, accept}

@@ -8,8 +8,8 @@ use Rattle.numbers.specs.declared.Number.{Number}
 use Rattle.request.specs.declared.Request.{Request}
 use Rattle.request.specs.Asked.{operationOf}
 use Rattle.numbers.proofs.NumberLaws.{sameNumber-self}
-use Rattle.registers.specs.Effect.{exec, response}
-use Rattle.registers.specs.Replay.{zeroBoard, replayOn, replay}
+use Rattle.effects.specs.Effect.{exec, response}
+use Rattle.effects.specs.Replay.{zeroBoard, replayOn, replay}
 use Rattle.lists.specs.Lists.{one, count}
 use Rattle.creek.specs.Plan.{hasNumber}
 use Rattle.creek.specs.Execution.{operations}

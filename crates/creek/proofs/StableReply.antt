@@ -18,8 +18,8 @@ use Rattle.request.specs.Refusal as refused
 use Rattle.request.specs.Asked.{operationOf}
 use Rattle.lists.proofs.BoolLaws.{both-true}
 use Rattle.numbers.proofs.NumberLaws.{sameNumber-sound, sameNumber-self}
-use Rattle.registers.specs.Effect.{response}
-use Rattle.registers.specs.Replay.{replay}
+use Rattle.effects.specs.Effect.{response}
+use Rattle.effects.specs.Replay.{replay}
 use Rattle.creek.specs.declared.Answer.{Answer}
 use Rattle.lists.specs.Lists.{count, keep, find, commonStart}
 use Rattle.creek.specs.Plan.{Plan, order, hasNumber, entered, named, committing, committingFound}

@@ -8,7 +8,7 @@ use lib.Dec.{eqb}
 use Rattle.counters.specs.Counted.{mostSteps}
 use Rattle.request.specs.Order.{before}
 use Rattle.request.specs.Refusal as refused
-use Rattle.registers.specs.Replay.{replay}
+use Rattle.effects.specs.Replay.{replay}
 use Rattle.lists.specs.Lists.{Ordered}
 use Rattle.creek.specs.Execution.{board, operations, registers, isIdle}
 use Rattle.creek.specs.Book.{Call, refusal}

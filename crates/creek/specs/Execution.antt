@@ -12,7 +12,7 @@ use Rattle.request.specs.declared.Request.{Request}
 use Rattle.request.specs.Request.{sameRequest}
 use Rattle.request.specs.Refusal as refused
 use Rattle.request.specs.Asked.{operationOf}
-use Rattle.registers.specs.Replay.{replay}
+use Rattle.effects.specs.Replay.{replay}
 use Rattle.lists.specs.Lists.{isNil, commonStart}
 use Rattle.creek.specs.Plan.{met}
 

@@ -7,7 +7,7 @@ use mathlib.Core.Bool.{true}
 use mathlib.Core.List.{List, _∷_}
 use Rattle.request.specs.declared.Request.{Request}
 use Rattle.request.specs.Asked.{operationOf}
-use Rattle.registers.specs.Moves.{goodMove, sum}
+use Rattle.effects.specs.Moves.{goodMove, sum}
 use Rattle.creek.specs.Execution.{registers}
 use Rattle.creek.specs.Book.{undo, execute}
 use Rattle.creek.specs.Calls.{Replica, step}

@@ -12,8 +12,8 @@ use Rattle.sets.specs.Sets.{member, join, leave, lowestLacking}
 use Rattle.request.specs.Refusal as refused
 use Rattle.request.specs.Request.{noRequest}
 use Rattle.request.specs.Asked.{operationOf}
-use Rattle.registers.specs.Effect.{exec, response}
-use Rattle.registers.specs.Replay.{zeroBoard}
+use Rattle.effects.specs.Effect.{exec, response}
+use Rattle.effects.specs.Replay.{zeroBoard}
 use Rattle.creek.specs.declared.Answer.{Answer}
 use Rattle.creek.specs.declared.Reply.{Reply}
 use Rattle.lists.specs.Lists.{one, somePasses}

@@ -8,7 +8,7 @@ use Rattle.replica.specs.internal.Parts.{KeptBy}
 use Rattle.wire.specs.declared.Message.{Message}
 use Rattle.wire.specs.declared.Subject.the-variants.{Request as aRequest, Settlement}
 use Rattle.wire.specs.Message.{said}
-use Rattle.wire.proofs.HeldLaws.{said-settlement, said-request}
+use Rattle.wire.proofs.MessageLaws.{said-settlement, said-request}
 use Rattle.intake.specs.Intake.{callOf}
 use Rattle.intake.specs.internal.Parts.{Lent, takeParts, Taken}
 

@@ -33,7 +33,7 @@ pub(crate) fn call(
     known: &mut [u64; 8],
     awaiting: &mut [u64; 8],
     clocks: &mut [u32; 512],
-    operations: &mut [u64; 512],
+    askings: &mut [u64; 512],
     contexts: &mut [u64; 4096],
     order: &mut [u16; 512],
     stack: &mut [u16; 512],
@@ -45,16 +45,16 @@ pub(crate) fn call(
     at: usize,
 ) -> Answer
     requires { ⌜ Inv (wholeNow panels own committed ordered executed stacked commits clock events undos executions
-        held known awaiting clocks operations contexts order stack registers saved responses settled) ⌝ }
+        held known awaiting clocks askings contexts order stack registers saved responses settled) ⌝ }
     requires { ⌜ at < length (now s) ⌝ }
     ensures { λ a. ⌜ Done
         (wholeEntry panels own committed ordered executed stacked commits clock events undos executions
-        held known awaiting clocks operations contexts order stack registers saved responses settled)
+        held known awaiting clocks askings contexts order stack registers saved responses settled)
         (entryAt (now (s .entry)) at)
         (record {
           answer = a;
           state = wholeExit panels own committed ordered executed stacked commits clock events undos executions held known
-              awaiting clocks operations contexts order stack registers saved responses settled;
+              awaiting clocks askings contexts order stack registers saved responses settled;
         }) ⌝ }
 {
     let tag = s[at];
@@ -65,7 +65,7 @@ pub(crate) fn call(
             executed,
             stacked,
             awaiting,
-            operations,
+            askings,
             order,
             stack,
             registers,
@@ -80,7 +80,7 @@ pub(crate) fn call(
         return replica::reply(numbers::none(), steps, mark::NOBODY);
     }
     if tag == calls::UNDO {
-        let step = steps::undo_step(*executed, stacked, operations, stack, registers, saved);
+        let step = steps::undo_step(*executed, stacked, askings, stack, registers, saved);
         let undone = *undos + step.steps;
         *undos = undone;
         return step.answer;
@@ -92,7 +92,7 @@ pub(crate) fn call(
             executed,
             stacked,
             awaiting,
-            operations,
+            askings,
             order,
             stack,
             registers,
@@ -119,7 +119,7 @@ pub(crate) fn call(
             known,
             awaiting,
             clocks,
-            operations,
+            askings,
             contexts,
             order,
             asked,
@@ -136,7 +136,7 @@ pub(crate) fn call(
         known,
         awaiting,
         clocks,
-        operations,
+        askings,
         contexts,
         order,
         stack,
@@ -159,7 +159,7 @@ fn take<'a>(
     known: &mut [u64; 8],
     awaiting: &mut [u64; 8],
     clocks: &mut [u32; 512],
-    operations: &mut [u64; 512],
+    askings: &mut [u64; 512],
     contexts: &mut [u64; 4096],
     order: &mut [u16; 512],
     stack: &'a [u16; 512],
@@ -168,10 +168,10 @@ fn take<'a>(
     m: Message,
 ) -> Reply
     requires { ⌜ TakeAsks panels own
-        (lentNow committed ordered executed commits held known awaiting clocks operations contexts order stack responses settled) ⌝ }
+        (lentNow committed ordered executed commits held known awaiting clocks askings contexts order stack responses settled) ⌝ }
     ensures { λ r. ⌜ Taken panels own
-        (lentEntry committed ordered executed commits held known awaiting clocks operations contexts order stack responses settled) (said m)
-        (lentExit committed ordered executed commits held known awaiting clocks operations contexts order stack responses settled)
+        (lentEntry committed ordered executed commits held known awaiting clocks askings contexts order stack responses settled) (said m)
+        (lentExit committed ordered executed commits held known awaiting clocks askings contexts order stack responses settled)
         (replyAnswer r) ⌝ }
 {
     let x = m.request;
@@ -188,7 +188,7 @@ fn take<'a>(
                 held,
                 known,
                 clocks,
-                operations,
+                askings,
                 contexts,
                 order,
                 x.number,
@@ -210,7 +210,7 @@ fn take<'a>(
                 known,
                 awaiting,
                 clocks,
-                operations,
+                askings,
                 contexts,
                 order,
                 stack,

@@ -44,7 +44,7 @@ pub fn run_list(calls: &[u8], out: &mut [u8]) -> ListResult
     let mut known = [0u64; 8];
     let mut awaiting = [0u64; 8];
     let mut clocks = [0u32; 512];
-    let mut operations = [0u64; 512];
+    let mut askings = [0u64; 512];
     let mut contexts = [0u64; 4096];
     let mut order = [0u16; 512];
     let mut stack = [0u16; 512];
@@ -70,7 +70,7 @@ pub fn run_list(calls: &[u8], out: &mut [u8]) -> ListResult
         &mut known,
         &mut awaiting,
         &mut clocks,
-        &mut operations,
+        &mut askings,
         &mut contexts,
         &mut order,
         &mut stack,
@@ -101,7 +101,7 @@ pub fn run(
     known: &mut [u64; 8],
     awaiting: &mut [u64; 8],
     clocks: &mut [u32; 512],
-    operations: &mut [u64; 512],
+    askings: &mut [u64; 512],
     contexts: &mut [u64; 4096],
     order: &mut [u16; 512],
     stack: &mut [u16; 512],
@@ -112,9 +112,9 @@ pub fn run(
 ) -> ListResult
     ensures { λ r. ⌜ RanList (now (s .entry)) (now (out .entry)) (now (out .exit)) r
         (wholeEntry (now (shop .entry)) (panelNo (now (own .entry))) committed ordered executed stacked commits clock events undos
-        executions held known awaiting clocks operations contexts order stack registers saved responses settled)
+        executions held known awaiting clocks askings contexts order stack registers saved responses settled)
         (wholeExit (now (shop .exit)) (panelNo (now (own .exit))) committed ordered executed stacked commits clock events undos
-        executions held known awaiting clocks operations contexts order stack registers saved responses settled) ⌝ }
+        executions held known awaiting clocks askings contexts order stack registers saved responses settled) ⌝ }
 {
     let count = encoding::call_count(s);
     if out.len() / answers::ANSWER_SIZE < count {
@@ -138,7 +138,7 @@ pub fn run(
         known,
         awaiting,
         clocks,
-        operations,
+        askings,
         contexts,
         order,
         stack,
@@ -169,7 +169,7 @@ pub fn run(
         known,
         awaiting,
         clocks,
-        operations,
+        askings,
         contexts,
         order,
         stack,
@@ -204,7 +204,7 @@ fn run_all(
     known: &mut [u64; 8],
     awaiting: &mut [u64; 8],
     clocks: &mut [u32; 512],
-    operations: &mut [u64; 512],
+    askings: &mut [u64; 512],
     contexts: &mut [u64; 4096],
     order: &mut [u16; 512],
     stack: &mut [u16; 512],
@@ -217,16 +217,16 @@ fn run_all(
     out: &mut [u8],
 )
     requires { ⌜ Inv (wholeNow panels own committed ordered executed stacked commits clock events undos executions
-        held known awaiting clocks operations contexts order stack registers saved responses settled) ⌝ }
+        held known awaiting clocks askings contexts order stack registers saved responses settled) ⌝ }
     requires { ⌜ count ≡ callCount (now s) ⌝ }
     requires { ⌜ Room (now out) 0 (answersBytes (model (wholeNow panels own committed ordered executed stacked commits clock events undos
-        executions held known awaiting clocks operations contexts order stack registers saved responses settled)) (entriesOf (now s))) ⌝ }
+        executions held known awaiting clocks askings contexts order stack registers saved responses settled)) (entriesOf (now s))) ⌝ }
     ensures { λ _. ⌜ RanAll
         (wholeEntry panels own committed ordered executed stacked commits clock events undos executions
-        held known awaiting clocks operations contexts order stack registers saved responses settled)
+        held known awaiting clocks askings contexts order stack registers saved responses settled)
         (now (s .entry)) (now (out .entry)) (now (out .exit))
         (wholeExit panels own committed ordered executed stacked commits clock events undos executions
-        held known awaiting clocks operations contexts order stack registers saved responses settled) ⌝ }
+        held known awaiting clocks askings contexts order stack registers saved responses settled) ⌝ }
 {
     let mut at = calls::CALLS_AT;
     let mut behind = 0;
@@ -248,7 +248,7 @@ fn run_all(
             known,
             awaiting,
             clocks,
-            operations,
+            askings,
             contexts,
             order,
             stack,

@@ -18,7 +18,7 @@ use Rattle.request.specs.declared.Request.{Request}
 use Rattle.request.specs.Asked.{operationOf}
 use Rattle.numbers.specs.internal.Slots.{numberOf}
 use Rattle.sets.specs.Sets.{setOf, member}
-use Rattle.registers.specs.Effect.{Executed}
+use Rattle.effects.specs.Effect.{Executed}
 use Rattle.registers.specs.Rollback.{savedOf, savedIn, restored}
 use Rattle.creek.specs.declared.Answer.{Answer}
 use Rattle.creek.specs.Plan.{isOf}
@@ -102,7 +102,7 @@ pub rolling-start : (p : State) → Inv p → Rolling p p
 rolling-start p inv = record { invariant = inv; executed = refl; ordered = refl; job = record { state = refl; replies = refl } }
 
 pub rolling-on : (p q : State) → Rolling p q → q .executed < q .stacked → (registers : List ℕ) (counters : Counters)
-    → registers ≡ restored (operationOf (askedIn (getD (q .operations) (topSlot q) 0))) (savedAt (q .saved) (q .stacked - 1)) (q .registers)
+    → registers ≡ restored (operationOf (askedIn (getD (q .askings) (topSlot q) 0))) (savedAt (q .saved) (q .stacked - 1)) (q .registers)
     → counters ≡ undosCounted (q .counters) 1 → Rolling p (undoneState q registers counters)
 rolling-on p q h below registers counters back counted =
     let kept = undo-kept q (h .invariant) below registers back counters _ counted refl in

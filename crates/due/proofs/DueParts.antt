@@ -64,7 +64,7 @@ module _ (l : UndoLent) where
         record { place = omega (arith, inv .counts); slot = top-slot (rolled-to registers stacked (asks .panel)) inv more }
 
     pub roll-on : l .executed < stacked → {registers′ : List ℕ} {s : ℕ}
-        → TakenOff (l .operations) (l .stack) registers (l .saved) (stacked - 1) registers′ s → RollingParts registers′ (stacked - 1)
+        → TakenOff (l .askings) (l .stack) registers (l .saved) (stacked - 1) registers′ s → RollingParts registers′ (stacked - 1)
     roll-on more {registers′} off =
         let again : stacked - 1 + 1 ≡ stacked = omega arith in
         record {
@@ -138,7 +138,7 @@ module _ (l : ExecuteLent) where
         }
 
     module _ (more : at < l .ordered) {awaiting′ stack′ registers′ saved′ responses′ : List ℕ} {r : Reply}
-        (next : Next (l .committed) awaiting (l .operations) (l .order) stack registers saved responses at
+        (next : Next (l .committed) awaiting (l .askings) (l .order) stack registers saved responses at
         awaiting′ stack′ registers′ saved′ responses′ r) where
       about : (p : State) → NextReply (here p) (r .number) (r .mark)
       about p = record { number = next .put .number; mark = next .put .mark }
@@ -185,7 +185,7 @@ module _ (l : ExecuteLent) where
 
 -- what an undo is lent of what an execution is lent
 abbrev pub undoPart : ExecuteLent → UndoLent
-undoPart l = undoWith (l .executed) (l .stacked) (l .operations) (l .stack) (l .registers) (l .saved)
+undoPart l = undoWith (l .executed) (l .stacked) (l .askings) (l .stack) (l .registers) (l .saved)
 
 -- the same with so many left on the board, and those registers
 abbrev pub rolledBack : ExecuteLent → ℕ → List ℕ → ExecuteLent

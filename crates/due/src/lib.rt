@@ -26,19 +26,19 @@ pub fn run_due<'a>(
     executed: &mut usize,
     stacked: &mut usize,
     awaiting: &mut [u64; 8],
-    operations: &'a [u64; 512],
+    askings: &'a [u64; 512],
     order: &'a [u16; 512],
     stack: &mut [u16; 512],
     registers: &mut [u32; 64],
     saved: &mut [u64; 512],
     responses: &mut [u32; 512],
 ) -> DueSteps
-    requires { ⌜ ExecuteAsks (executeNow committed ordered executed stacked awaiting operations order stack registers saved responses) ⌝ }
-    ensures { λ r. ⌜ DueKept (executeEntry committed ordered executed stacked awaiting operations order stack registers saved responses)
-        (executeExit committed ordered executed stacked awaiting operations order stack registers saved responses) r ⌝ }
+    requires { ⌜ ExecuteAsks (executeNow committed ordered executed stacked awaiting askings order stack registers saved responses) ⌝ }
+    ensures { λ r. ⌜ DueKept (executeEntry committed ordered executed stacked awaiting askings order stack registers saved responses)
+        (executeExit committed ordered executed stacked awaiting askings order stack registers saved responses) r ⌝ }
 {
     let undos = (*stacked - *executed) as u32;
-    roll_back_all(*executed, stacked, operations, stack, registers, saved);
+    roll_back_all(*executed, stacked, askings, stack, registers, saved);
     execute_all(
         committed,
         ordered,
@@ -46,7 +46,7 @@ pub fn run_due<'a>(
         stacked,
         undos,
         awaiting,
-        operations,
+        askings,
         order,
         stack,
         registers,
@@ -59,19 +59,19 @@ pub fn run_due<'a>(
 fn roll_back_all<'a>(
     executed: usize,
     stacked: &mut usize,
-    operations: &'a [u64; 512],
+    askings: &'a [u64; 512],
     stack: &'a [u16; 512],
     registers: &mut [u32; 64],
     saved: &'a [u64; 512],
 )
-    requires { ⌜ UndoAsks (undoNow executed stacked operations stack registers saved) ⌝ }
-    ensures { λ _. ⌜ AllUndone (undoEntry executed stacked operations stack registers saved)
-        (undoExit executed stacked operations stack registers saved) ⌝ }
+    requires { ⌜ UndoAsks (undoNow executed stacked askings stack registers saved) ⌝ }
+    ensures { λ _. ⌜ AllUndone (undoEntry executed stacked askings stack registers saved)
+        (undoExit executed stacked askings stack registers saved) ⌝ }
 {
     let mut left = *stacked;
     while executed < left {
         left -= 1;
-        steps::take_off(operations, stack, registers, saved, left);
+        steps::take_off(askings, stack, registers, saved, left);
     }
     *stacked = left;
 }
@@ -84,17 +84,17 @@ fn execute_all<'a>(
     stacked: &mut usize,
     undos: u32,
     awaiting: &mut [u64; 8],
-    operations: &'a [u64; 512],
+    askings: &'a [u64; 512],
     order: &'a [u16; 512],
     stack: &mut [u16; 512],
     registers: &mut [u32; 64],
     saved: &mut [u64; 512],
     responses: &mut [u32; 512],
 ) -> DueSteps
-    requires { ⌜ ExecuteAsks (executeNow committed ordered executed stacked awaiting operations order stack registers saved responses) ⌝ }
+    requires { ⌜ ExecuteAsks (executeNow committed ordered executed stacked awaiting askings order stack registers saved responses) ⌝ }
     requires { ⌜ now executed ≡ now stacked ⌝ }
-    ensures { λ r. ⌜ AllExecuted (executeEntry committed ordered executed stacked awaiting operations order stack registers saved responses)
-        undos (executeExit committed ordered executed stacked awaiting operations order stack registers saved responses) r ⌝ }
+    ensures { λ r. ⌜ AllExecuted (executeEntry committed ordered executed stacked awaiting askings order stack registers saved responses)
+        undos (executeExit committed ordered executed stacked awaiting askings order stack registers saved responses) r ⌝ }
 {
     let first = *executed;
     let executions = (ordered - first) as u32;
@@ -103,11 +103,11 @@ fn execute_all<'a>(
     let mut at = first;
     while at < ordered {
         let slot = order[at];
-        let asked = store::asked_at(operations, slot as usize);
+        let asked = store::asked_at(askings, slot as usize);
         let operation = asks::operation(asked);
         let before = registers::save(registers, operation);
         let word = registers::saved_word(before);
-        let response = registers::execute_due(registers, operation);
+        let response = executing::execute_due(registers, operation);
         let next = steps::put_on(
             committed,
             awaiting,

@@ -8,17 +8,18 @@ use Rattle.request.specs.Operations.{badOperation}
 use Rattle.request.specs.Asked.{badAsked}
 use Rattle.request.specs.Order.{before}
 use Rattle.sets.specs.Sets.{allZero, isEmpty, bit, member, join, leave}
-use Rattle.registers.specs.Effect.{offBoard, added, claimed, amountMoved, moved, exec, response}
-use Rattle.registers.specs.Replay.{replayOn, replay}
+use Rattle.effects.specs.Effect.{offBoard, added, claimed, amountMoved, moved, exec, response}
+use Rattle.effects.specs.Replay.{replayOn, replay}
 use Rattle.creek.specs.Book.{refusal, accepted, undo, execute}
 use Rattle.creek.specs.Calls.{badShop, fresh, accept, step}
 use Rattle.creek.specs.Execution.{registers, adjusted, executedNext, executeRefusal}
 use Rattle.creek.specs.Plan.{lastEvent, lastClock, entered, atLeast, made, invokeRefusal}
 use Rattle.creek.specs.Replies.{executionMark, executionReply, acceptedAnswer, answerOf, acceptedAwaiting}
 use Rattle.wire.specs.Integers.{integerAt, integerBytes}
-use Rattle.wire.specs.Layout.{kindWith, layout, widthsWith, leastSize, mostSize, decode, encode}
+use Rattle.wire.specs.Layout.{kindWith, layout, widthsWith, leastSize, mostSize}
+use Rattle.fields.specs.Widths.{decode, encode}
 use Rattle.wire.specs.Message.{kindOf, frontOf, runOf, behindOf, contents, widthsOf, sizeOf, fieldsOf, bytesOf, messageFrom}
-use Rattle.wire.specs.Message.{weakWithContext, held, noMessage}
+use Rattle.wire.specs.Message.{weakWithContext, asMessage, noMessage}
 use Rattle.wire.specs.Reader.{answered, lengthAt, kindAt, runAt, fieldsAt, spareSet, refusalAs, readAs, readAt}
 use Rattle.intake.specs.Intake.{callOf}
 use Rattle.encoding.specs.Encoding.{messageAt, invocationOf, callAt, entryAt, entriesFrom, callCount, entriesOf}
@@ -46,7 +47,7 @@ unfolding sameNumber badNumber badOperation badAsked before allZero isEmpty bit 
     moved exec response replayOn replay refusal accepted badShop fresh accept step registers adjusted executedNext
     executeRefusal lastEvent lastClock entered atLeast made invokeRefusal executionMark executionReply acceptedAnswer answerOf
     acceptedAwaiting integerAt integerBytes kindWith layout widthsWith leastSize mostSize decode encode kindOf frontOf runOf behindOf
-    contents widthsOf sizeOf fieldsOf bytesOf messageFrom weakWithContext held noMessage answered lengthAt kindAt runAt fieldsAt
+    contents widthsOf sizeOf fieldsOf bytesOf messageFrom weakWithContext asMessage noMessage answered lengthAt kindAt runAt fieldsAt
     spareSet refusalAs readAs readAt messageAt invocationOf callOf callAt entryAt entriesFrom callCount entriesOf after answerTo
     messageBytes headBytes answerBytes answersBytes
 made-and-carried-out = refl

@@ -9,10 +9,10 @@ use Rattle.request.specs.declared.Request.{Request}
 use Rattle.wire.specs.declared.Message.{Message}
 use Rattle.wire.specs.declared.Written.{Written}
 use Rattle.wire.specs.Layout.{longestMessage}
-use Rattle.wire.specs.Message.{request, sizeOf, weakWithContext, Fits, held, said}
+use Rattle.wire.specs.Message.{request, sizeOf, weakWithContext, Fits, asMessage, said}
 use Rattle.wire.specs.Writer.{afterWrite, Wrote}
 use Rattle.wire.proofs.WriterLaws.{size-most, context-refused, written, bytes-put}
-use Rattle.wire.proofs.HeldLaws.{said-held}
+use Rattle.wire.proofs.MessageLaws.{said-message}
 use Rattle.encoding.specs.Encoding.{noMessageBytes, messageBytes}
 
 after-zeros : (x : Request) → Fits (request x) → afterWrite (request x) noMessageBytes ≡ messageBytes x
@@ -27,9 +27,9 @@ after-zeros x fits = go (weakWithContext (request x)) refl
     go false e = written (request x) noMessageBytes e room .1 ∙ rw e (sym (bytes-put (request x) noMessageBytes fits room))
 
 -- the writer, given the message of x and a run of zeros, leaves the message's bytes
-pub message-written : (x : Request) (m : Message) (out : List ℕ) (r : Written) → m ≡ held (request x) → Wrote m noMessageBytes out r
+pub message-written : (x : Request) (m : Message) (out : List ℕ) (r : Written) → m ≡ asMessage (request x) → Wrote m noMessageBytes out r
     → out ≡ messageBytes x
 message-written x m out r e w =
-    let is : said m ≡ request x = rw e (said-held (request x)) in
+    let is : said m ≡ request x = rw e (said-message (request x)) in
     let fits : Fits (request x) = rw is at (w .fits) in
     rw is at (w .after) ∙ after-zeros x fits

@@ -80,7 +80,7 @@ module _ (p : State) (x : Request) (inv : Inv p) where
     refusal-is : (o : Option Request) → held (planOf p) (x .number) ≡ o → deliverRefusal (planOf p) x ≡ heldRefusal o x
     refusal-is o e = by-held judged-new ∙ ap (λ (o : Option Request). heldRefusal o x) e
 
-    pub kept-held : member (p .held) (x .number) ≡ true → (s : ℕ) → s ≡ slotOf (x .number) → (y : Request) → y ≡ requestAt (p .clocks) (p .operations) (p .contexts) s
+    pub kept-held : member (p .held) (x .number) ≡ true → (s : ℕ) → s ≡ slotOf (x .number) → (y : Request) → y ≡ requestAt (p .clocks) (p .askings) (p .contexts) s
         → (w : ℕ) (a : Answer) → w ≡ heldRefusal (some y) x → a ≡ refusedWith w noNumber
         → Kept p (deliver x) (record { answer = a; state = p })
     unfolding refusal namedByRefusal bookOf
@@ -88,7 +88,7 @@ module _ (p : State) (x : Request) (inv : Inv p) where
         kept-refused p (deliver x) w a inv refuses (λ e. never (sameRequest y x) (sym is ∙ e)) answers
       where
         refuses : deliverRefusal (planOf p) x ≡ w
-        refuses = refusal-is (some y) (held-some p inv (x .number) good there ∙ ap some (ap (requestAt (p .clocks) (p .operations) (p .contexts)) (sym slot-is) ∙ sym y-is)) ∙ sym is
+        refuses = refusal-is (some y) (held-some p inv (x .number) good there ∙ ap some (ap (requestAt (p .clocks) (p .askings) (p .contexts)) (sym slot-is) ∙ sym y-is)) ∙ sym is
 
         never : (b : Bool) → cond b refused.heldAlready refused.numberClash ≡ refused.accepted → ⊥
         never true e = omega arith

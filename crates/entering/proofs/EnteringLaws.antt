@@ -29,10 +29,10 @@ use Rattle.request.specs.Request.{sameRequest}
 use Rattle.request.proofs.OrderLaws.{before-transitive}
 use Rattle.numbers.proofs.NumberLaws.{sameNumber-self, sameNumber-sym, slot-fits, number-of-slot}
 use Rattle.sets.proofs.SetLaws.{member-join, join-length}
-use Rattle.slots.specs.Slots.{IsSlot, OrderAsks, comesBefore}
+use Rattle.ordering.specs.Slots.{IsSlot, OrderAsks, comesBefore}
 use Rattle.slots.specs.Marks.{Marks}
-use Rattle.slots.specs.Insertion.{PlaceAsks, placeFor, InsertionAsks, Inserted}
-use Rattle.slots.proofs.SlotLaws.{part-of, same-slot, comes-before-order}
+use Rattle.ordering.specs.Insertion.{PlaceAsks, placeFor, InsertionAsks, Inserted}
+use Rattle.ordering.proofs.SlotLaws.{part-of, same-slot, comes-before-order}
 use Rattle.creek.specs.Plan.{Plan, order, hasNumber, knownWith, entered}
 use Rattle.creek.specs.Execution.{adjusted}
 use Rattle.creek.specs.internal.Stack.{stacked}
@@ -82,7 +82,7 @@ module _ (p : State) (x : Request) (inv : Inv p) (new : Enters p x) where
   slot-is = slot-fits (x .number) (new .number)
 
   abbrev at-before : ℕ → Request
-  at-before = requestAt (p .clocks) (p .operations) (p .contexts)
+  at-before = requestAt (p .clocks) (p .askings) (p .contexts)
 
   -- t is another slot
   abbrev Other : ℕ → Type 0
@@ -170,12 +170,12 @@ module _ (p : State) (x : Request) (inv : Inv p) (new : Enters p x) where
 
   -- ---- the order with x in it
 
-  module _ (clocks operations contexts : List ℕ) (stored : Stored (p .clocks) (p .operations) (p .contexts) (slot x) x clocks operations contexts)
+  module _ (clocks askings contexts : List ℕ) (stored : Stored (p .clocks) (p .askings) (p .contexts) (slot x) x clocks askings contexts)
       (new-order : List ℕ) (ins : Inserted (p .order) (p .ordered) (placeOf p x) (slot x) new-order)
       (held known awaiting : List ℕ) (joined : setOf held ≡ join (p .held) (x .number))
       (knows : setOf known ≡ knownWith (p .known) (x .asked .strong) (x .number)) (events : ℕ) (clock : Clock) where
     abbrev at-after : ℕ → Request
-    at-after = requestAt clocks operations contexts
+    at-after = requestAt clocks askings contexts
 
     -- at its slot stands x
     itself-at : at-after (slot x) ≡ x
@@ -196,7 +196,7 @@ module _ (p : State) (x : Request) (inv : Inv p) (new : Enters p x) where
     kept = keptStart p new-order
 
     abbrev after : State
-    after = enlarged p held known awaiting clocks operations contexts new-order kept events clock
+    after = enlarged p held known awaiting clocks askings contexts new-order kept events clock
 
     plan-after : planOf after ≡ entered (planOf p) x
     unfolding planOf entered
@@ -231,7 +231,7 @@ module _ (p : State) (x : Request) (inv : Inv p) (new : Enters p x) where
         let executed = rw executed-slots at (all-take IsSlot (p .executed) (boardSlots p) (inv .board-slots)) in
         ap (λ (l : List Request). commonStart sameRequest l (orderOf after))
         (ap (take (p .executed)) (sym board-after) ∙ sym (map-take at-after (p .executed) (boardSlots p)) ∙ ap (map at-after) executed-slots)
-        ∙ commonStart-map at-after IsSlot eqb sameRequest (same-request clocks operations contexts)
+        ∙ commonStart-map at-after IsSlot eqb sameRequest (same-request clocks askings contexts)
         (take (p .executed) (p .stack)) (orderSlots after) executed order-slots-after
 
     book-after : bookOf after ≡ planned (entered (planOf p) x) (bookOf p .execution)
@@ -362,20 +362,20 @@ module _ (p : State) (x : Request) (inv : Inv p) (new : Enters p x) where
           ∙ commonStart-inserted eqb (λ t. eq-eqb t t refl) s (p .executed) at (orderSlots p)
           (omega (arith, inv .counts, length-order-slots p inv)) (all-take _ (p .executed) (orderSlots p) others))
 
-      pub entered-by : {clocks operations contexts held known : List ℕ} {k : ℕ}
-          → Stored (p .clocks) (p .operations) (p .contexts) s (requestOf (numberOf s) (x .clock) (x .asked) (x .context .words))
-          clocks operations contexts
+      pub entered-by : {clocks askings contexts held known : List ℕ} {k : ℕ}
+          → Stored (p .clocks) (p .askings) (p .contexts) s (requestOf (numberOf s) (x .clock) (x .asked) (x .context .words))
+          clocks askings contexts
           → setOf held ≡ join (p .held) (x .number)
           → setOf known ≡ knownWith (p .known) (x .asked .strong) (x .number)
           → k ≡ min (p .executed) at
           → (awaiting : List ℕ) (events : ℕ) (clock : Clock)
-          → Entered p x (setOf awaiting) events clock (enlarged p held known awaiting clocks operations contexts order k events clock)
-      entered-by {clocks} {operations} {contexts} stored joined knows k-is awaiting events clock =
+          → Entered p x (setOf awaiting) events clock (enlarged p held known awaiting clocks askings contexts order k events clock)
+      entered-by {clocks} {askings} {contexts} stored joined knows k-is awaiting events clock =
           let its-number : numberOf s ≡ x .number = ap numberOf slot-of ∙ number-of-slot (x .number) (new .number) in
           rw (k-is, kept-is)
-          (entered-after clocks operations contexts
-          (subst (λ (t : ℕ). Stored (p .clocks) (p .operations) (p .contexts) t x clocks operations contexts) slot-of
-          (subst (λ (n : Number). Stored (p .clocks) (p .operations) (p .contexts) s (requestOf n (x .clock) (x .asked) (x .context .words))
-          clocks operations contexts) its-number stored)) order
+          (entered-after clocks askings contexts
+          (subst (λ (t : ℕ). Stored (p .clocks) (p .askings) (p .contexts) t x clocks askings contexts) slot-of
+          (subst (λ (n : Number). Stored (p .clocks) (p .askings) (p .contexts) s (requestOf n (x .clock) (x .asked) (x .context .words))
+          clocks askings contexts) its-number stored)) order
           (subst (λ (t : ℕ). Inserted (p .order) (p .ordered) (placeOf p x) t order) slot-of
           (subst (λ (k : ℕ). Inserted (p .order) (p .ordered) k s order) place-is inserted)) _ _ awaiting joined knows events clock)

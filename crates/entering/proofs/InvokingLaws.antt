@@ -23,9 +23,10 @@ use Rattle.request.specs.Order.{before}
 use Rattle.request.specs.Refusal as refused
 use Rattle.numbers.proofs.NumberLaws.{sameNumber-sound}
 use Rattle.sets.proofs.SetLaws.{member-join, join-length}
-use Rattle.slots.specs.Slots.{IsSlot, Part, comesBefore, without as withoutSlots}
-use Rattle.slots.specs.Insertion.{PlaceAsks, placeFor}
-use Rattle.slots.proofs.SlotLaws.{part-of, comes-before-order, later-from-place}
+use Rattle.ordering.specs.Slots.{IsSlot, Part, comesBefore, without as withoutSlots}
+use Rattle.ordering.specs.Insertion.{PlaceAsks, placeFor}
+use Rattle.ordering.proofs.SlotLaws.{part-of, comes-before-order}
+use Rattle.ordering.proofs.InsertionLaws.{later-from-place}
 use Rattle.creek.specs.declared.Invocation.{Invocation}
 use Rattle.creek.specs.declared.Answer.{Answer}
 use Rattle.creek.specs.Plan.{lastEvent, lastClock, entered, without, nextNumber, requestWith, later, contextOf, atLeast, made}
@@ -49,11 +50,11 @@ use Rattle.replica.proofs.KeptLaws.{kept-refused, kept-accepted}
 -- ---- the context
 
 -- a set without the numbers of requests at slots is the set without those slots
-without-at : (clocks operations contexts : List ℕ) (s : Context) (l : List ℕ)
-    → without s (map (requestAt clocks operations contexts) l) ≡ withoutSlots s l
+without-at : (clocks askings contexts : List ℕ) (s : Context) (l : List ℕ)
+    → without s (map (requestAt clocks askings contexts) l) ≡ withoutSlots s l
 unfolding without withoutSlots requestAt
-without-at clocks operations contexts s [] = refl
-without-at clocks operations contexts s (t ∷ ts) = without-at clocks operations contexts (leave s (numberOf t)) ts
+without-at clocks askings contexts s [] = refl
+without-at clocks askings contexts s (t ∷ ts) = without-at clocks askings contexts (leave s (numberOf t)) ts
 
 -- the slots of the tentative requests that one of that clock reading and slot comes before
 abbrev laterSlots : State → ℕ → ℕ → List ℕ
@@ -68,11 +69,11 @@ abbrev pub asRequest : State → Invocation → Context → Request
 asRequest p i context = requestFor (nextOwn p) i context
 
 module _ (p : State) (inv : Inv p) (i : Invocation) (good : GoodNumber mostPanels (nextNumber (planOf p))) where
-  later-at : later (planOf p) i ≡ map (requestAt (p .clocks) (p .operations) (p .contexts)) (laterSlots p (i .clock .0) (slotOf (nextNumber (planOf p))))
+  later-at : later (planOf p) i ≡ map (requestAt (p .clocks) (p .askings) (p .contexts)) (laterSlots p (i .clock .0) (slotOf (nextNumber (planOf p))))
   unfolding planOf requestAt
   later-at =
       let x = requestWith (planOf p) i emptySet in
-      let at = requestAt (p .clocks) (p .operations) (p .contexts) in
+      let at = requestAt (p .clocks) (p .askings) (p .contexts) in
       let tentative = tentativeSlots p in
       let slots = all-drop IsSlot (p .committed) (orderSlots p) (inv .order-slots) in
       ap (keep (before x)) (sym (map-drop at (p .committed) (orderSlots p)))
@@ -82,7 +83,7 @@ module _ (p : State) (inv : Inv p) (i : Invocation) (good : GoodNumber mostPanel
 
   context-at : without (p .known) (later (planOf p) i)
       ≡ withoutSlots (p .known) (laterSlots p (i .clock .0) (slotOf (nextNumber (planOf p))))
-  context-at = ap (without (p .known)) later-at ∙ without-at (p .clocks) (p .operations) (p .contexts) (p .known) _
+  context-at = ap (without (p .known)) later-at ∙ without-at (p .clocks) (p .askings) (p .contexts) (p .known) _
 
 -- ---- the reading that is taken
 

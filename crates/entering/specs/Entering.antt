@@ -15,8 +15,8 @@ use Rattle.numbers.specs.internal.Slots.{GoodNumber, slotOf}
 use Rattle.sets.specs.declared.Context.{Context}
 use Rattle.sets.specs.Sets.{setOf, emptySet, member}
 use Rattle.request.specs.declared.Request.{Request}
-use Rattle.slots.specs.Slots.{without}
-use Rattle.slots.specs.Insertion.{placeFor}
+use Rattle.ordering.specs.Slots.{without}
+use Rattle.ordering.specs.Insertion.{placeFor}
 use Rattle.creek.specs.declared.Answer.{Answer}
 use Rattle.creek.specs.declared.Invocation.{Invocation}
 use Rattle.creek.specs.Plan.{Plan, emptyPlan, entered, lastEvent, lastClock, invokeRefusal, deliverRefusal}
@@ -87,30 +87,30 @@ pub record Lent : Type 0 where
   pub held : List ℕ
   pub known : List ℕ
   pub clocks : List ℕ
-  pub operations : List ℕ
+  pub askings : List ℕ
   pub contexts : List ℕ
   pub order : List ℕ
 
 -- what references to them refer to: where they are passed, at a function's entry, and at its exit
-abbrev pub lentNow : (ordered executed : RefT ℕ) (held known clocks operations contexts order : RefT (List ℕ)) → Lent
-lentNow ordered executed held known clocks operations contexts order = record {
+abbrev pub lentNow : (ordered executed : RefT ℕ) (held known clocks askings contexts order : RefT (List ℕ)) → Lent
+lentNow ordered executed held known clocks askings contexts order = record {
   ordered = ordered .now;
   executed = executed .now;
   held = held .now;
   known = known .now;
   clocks = clocks .now;
-  operations = operations .now;
+  askings = askings .now;
   contexts = contexts .now;
   order = order .now;
 }
 
-abbrev pub lentEntry : (ordered executed : Both (RefT ℕ) (RefT ℕ)) (held known clocks operations contexts order : Both (RefT (List ℕ)) (RefT (List ℕ))) → Lent
-lentEntry ordered executed held known clocks operations contexts order =
-    lentNow (ordered .entry) (executed .entry) (held .entry) (known .entry) (clocks .entry) (operations .entry) (contexts .entry) (order .entry)
+abbrev pub lentEntry : (ordered executed : Both (RefT ℕ) (RefT ℕ)) (held known clocks askings contexts order : Both (RefT (List ℕ)) (RefT (List ℕ))) → Lent
+lentEntry ordered executed held known clocks askings contexts order =
+    lentNow (ordered .entry) (executed .entry) (held .entry) (known .entry) (clocks .entry) (askings .entry) (contexts .entry) (order .entry)
 
-abbrev pub lentExit : (ordered executed : Both (RefT ℕ) (RefT ℕ)) (held known clocks operations contexts order : Both (RefT (List ℕ)) (RefT (List ℕ))) → Lent
-lentExit ordered executed held known clocks operations contexts order =
-    lentNow (ordered .exit) (executed .exit) (held .exit) (known .exit) (clocks .exit) (operations .exit) (contexts .exit) (order .exit)
+abbrev pub lentExit : (ordered executed : Both (RefT ℕ) (RefT ℕ)) (held known clocks askings contexts order : Both (RefT (List ℕ)) (RefT (List ℕ))) → Lent
+lentExit ordered executed held known clocks askings contexts order =
+    lentNow (ordered .exit) (executed .exit) (held .exit) (known .exit) (clocks .exit) (askings .exit) (contexts .exit) (order .exit)
 
 -- a panel with those parts, those who await a reply, and that last own event and clock reading
 abbrev pub entering : Lent → List ℕ → ℕ → Clock → State → State
@@ -129,7 +129,7 @@ entering l awaiting events clock p = record {
   known = setOf (l .known);
   awaiting = setOf awaiting;
   clocks = l .clocks;
-  operations = l .operations;
+  askings = l .askings;
   contexts = l .contexts;
   order = l .order;
   stack = p .stack;

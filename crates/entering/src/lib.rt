@@ -22,7 +22,7 @@ ghost use Rattle.numbers.specs.Numbers.{mostPanels};
 ghost use Rattle.numbers.specs.internal.Slots.{numberOf};
 ghost use Rattle.sets.specs.Sets.{setOf};
 ghost use Rattle.request.specs.Request.{badContext};
-ghost use Rattle.slots.specs.Slots.{IsSlot, Part};
+ghost use Rattle.ordering.specs.Slots.{IsSlot, Part};
 ghost use Rattle.store.specs.Requests.{requestOf, requestAt, Long};
 ghost use Rattle.creek.specs.Plan.{knownWith, atLeast, heldRefusal};
 ghost use Rattle.creek.specs.Replies.{spread as spreadAnswer};
@@ -44,16 +44,16 @@ pub fn invoke(
     known: &mut [u64; 8],
     awaiting: &mut [u64; 8],
     clocks: &mut [u32; 512],
-    operations: &mut [u64; 512],
+    askings: &mut [u64; 512],
     contexts: &mut [u64; 4096],
     order: &mut [u16; 512],
     i: Invocation,
 ) -> Answer
     requires { ⌜ InvokeAsks own committed (ownNow awaiting events clock)
-        (lentNow ordered executed held known clocks operations contexts order) ⌝ }
+        (lentNow ordered executed held known clocks askings contexts order) ⌝ }
     ensures { λ a. ⌜ InvokeKept own committed
-        (ownEntry awaiting events clock) (lentEntry ordered executed held known clocks operations contexts order) i
-        (ownExit awaiting events clock) (lentExit ordered executed held known clocks operations contexts order) a ⌝ }
+        (ownEntry awaiting events clock) (lentEntry ordered executed held known clocks askings contexts order) i
+        (ownExit awaiting events clock) (lentExit ordered executed held known clocks askings contexts order) a ⌝ }
 {
     let made = *events;
     let refusal = invoke_refusal(made, i);
@@ -69,7 +69,7 @@ pub fn invoke(
     };
     let slot = numbers::slot_of(number);
     let n = *ordered;
-    let at = slots::place(clocks, order, committed, n, raised.clock.0, slot);
+    let at = ordering::place(clocks, order, committed, n, raised.clock.0, slot);
     // The later ones of the tentative requests are those from there on.
     let context = context_for(raised.asked.strong, known, order, at, n);
     enter(
@@ -78,7 +78,7 @@ pub fn invoke(
         held,
         known,
         clocks,
-        operations,
+        askings,
         contexts,
         order,
         slot,
@@ -100,7 +100,7 @@ fn enter<'a>(
     held: &mut [u64; 8],
     known: &mut [u64; 8],
     clocks: &mut [u32; 512],
-    operations: &mut [u64; 512],
+    askings: &mut [u64; 512],
     contexts: &mut [u64; 4096],
     order: &mut [u16; 512],
     slot: u16,
@@ -109,16 +109,16 @@ fn enter<'a>(
     asked: Asked,
     words: &'a [u64; 8],
 )
-    requires { ⌜ EnterAsks (lentNow ordered executed held known clocks operations contexts order) slot at
+    requires { ⌜ EnterAsks (lentNow ordered executed held known clocks askings contexts order) slot at
         (requestOf (numberOf slot) clock asked (now words)) ⌝ }
-    ensures { λ _. ⌜ EnterKept (lentEntry ordered executed held known clocks operations contexts order) slot at
-        (requestOf (numberOf slot) clock asked (now (words .entry))) (lentExit ordered executed held known clocks operations contexts order) ⌝ }
+    ensures { λ _. ⌜ EnterKept (lentEntry ordered executed held known clocks askings contexts order) slot at
+        (requestOf (numberOf slot) clock asked (now (words .entry))) (lentExit ordered executed held known clocks askings contexts order) ⌝ }
 {
     let n = *ordered;
-    slots::insert_at(order, n, at, slot);
+    ordering::insert_at(order, n, at, slot);
     store::join_at(held, slot);
     know(known, asked.strong, slot);
-    store::put_request(clocks, operations, contexts, slot, clock, asked, words);
+    store::put_request(clocks, askings, contexts, slot, clock, asked, words);
     let grown = n + 1;
     *ordered = grown;
     // What is executed agrees with the order up to the place of the request, which is not executed.
@@ -164,7 +164,7 @@ fn context_for<'a>(
 {
     if strong {
         let mut words = *known;
-        slots::take_out(&mut words, order, from, to);
+        ordering::take_out(&mut words, order, from, to);
         return Context { words };
     }
     sets::empty()
@@ -207,7 +207,7 @@ pub fn deliver<'a>(
     held: &mut [u64; 8],
     known: &mut [u64; 8],
     clocks: &mut [u32; 512],
-    operations: &mut [u64; 512],
+    askings: &mut [u64; 512],
     contexts: &mut [u64; 4096],
     order: &mut [u16; 512],
     number: Number,
@@ -215,28 +215,28 @@ pub fn deliver<'a>(
     asked: Asked,
     words: &'a [u64; 8],
 ) -> u8
-    requires { ⌜ DeliverAsks panels own committed (lentNow ordered executed held known clocks operations contexts order) (now words) ⌝ }
-    ensures { λ w. ⌜ DeliverKept panels own committed (lentEntry ordered executed held known clocks operations contexts order)
-        (requestOf number clock asked (now (words .entry))) (lentExit ordered executed held known clocks operations contexts order)
+    requires { ⌜ DeliverAsks panels own committed (lentNow ordered executed held known clocks askings contexts order) (now words) ⌝ }
+    ensures { λ w. ⌜ DeliverKept panels own committed (lentEntry ordered executed held known clocks askings contexts order)
+        (requestOf number clock asked (now (words .entry))) (lentExit ordered executed held known clocks askings contexts order)
         (heardAnswer w) ⌝ }
 {
-    let refusal = judge(panels, own, number, clock, asked, words);
+    let refusal = deliver_refusal(panels, own, number, clock, asked, words);
     if refusal != refusal::ACCEPTED {
         return refusal;
     }
     let slot = numbers::slot_of(number);
     if store::member_at(held, slot) {
-        return held_refusal(clocks, operations, contexts, slot, clock, asked, words);
+        return held_refusal(clocks, askings, contexts, slot, clock, asked, words);
     }
     let n = *ordered;
-    let at = slots::place(clocks, order, committed, n, clock.0, slot);
+    let at = ordering::place(clocks, order, committed, n, clock.0, slot);
     enter(
         ordered,
         executed,
         held,
         known,
         clocks,
-        operations,
+        askings,
         contexts,
         order,
         slot,
@@ -258,14 +258,14 @@ pub fn deliver_request(
     held: &mut [u64; 8],
     known: &mut [u64; 8],
     clocks: &mut [u32; 512],
-    operations: &mut [u64; 512],
+    askings: &mut [u64; 512],
     contexts: &mut [u64; 4096],
     order: &mut [u16; 512],
     x: Request,
 ) -> Answer
-    requires { ⌜ Asks (deliverParts panels own committed (lentNow ordered executed held known clocks operations contexts order)) ⌝ }
-    ensures { λ a. ⌜ DeliverKept panels own committed (lentEntry ordered executed held known clocks operations contexts order) x
-        (lentExit ordered executed held known clocks operations contexts order) a ⌝ }
+    requires { ⌜ Asks (deliverParts panels own committed (lentNow ordered executed held known clocks askings contexts order)) ⌝ }
+    ensures { λ a. ⌜ DeliverKept panels own committed (lentEntry ordered executed held known clocks askings contexts order) x
+        (lentExit ordered executed held known clocks askings contexts order) a ⌝ }
 {
     let refusal = deliver(
         panels,
@@ -276,7 +276,7 @@ pub fn deliver_request(
         held,
         known,
         clocks,
-        operations,
+        askings,
         contexts,
         order,
         x.number,
@@ -288,7 +288,7 @@ pub fn deliver_request(
 }
 
 // The refusals of a delivery that do not ask what is held: bad number, own echo, bad operation, bad context.
-fn judge<'a>(
+fn deliver_refusal<'a>(
     panels: u8,
     own: PanelNo,
     number: Number,
@@ -336,18 +336,18 @@ fn bad_context<'a>(
 // The refusal of a request whose number, that of the slot, is held.
 fn held_refusal<'a>(
     clocks: &'a [u32; 512],
-    operations: &'a [u64; 512],
+    askings: &'a [u64; 512],
     contexts: &'a [u64; 4096],
     slot: u16,
     clock: Clock,
     asked: Asked,
     words: &'a [u64; 8],
 ) -> u8
-    requires { ⌜ IsSlot slot × Long (now clocks) (now operations) (now contexts) × (length (now words) ≡ mostPanels) ⌝ }
-    ensures { λ w. ⌜ w ≡ heldRefusal (some (requestAt (now (clocks .entry)) (now (operations .entry)) (now (contexts .entry)) slot))
+    requires { ⌜ IsSlot slot × Long (now clocks) (now askings) (now contexts) × (length (now words) ≡ mostPanels) ⌝ }
+    ensures { λ w. ⌜ w ≡ heldRefusal (some (requestAt (now (clocks .entry)) (now (askings .entry)) (now (contexts .entry)) slot))
         (requestOf (numberOf slot) clock asked (now (words .entry))) ⌝ }
 {
-    if store::same_at(clocks, operations, contexts, slot, clock, asked, words) {
+    if store::same_at(clocks, askings, contexts, slot, clock, asked, words) {
         return refusal::HELD_ALREADY;
     }
     refusal::NUMBER_CLASH

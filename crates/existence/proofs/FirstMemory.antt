@@ -9,10 +9,10 @@ use Rattle.request.specs.declared.Request.{Request}
 use Rattle.request.specs.Operations.{noOperation}
 use Rattle.request.specs.Request.{noRequest}
 use Rattle.sets.specs.Sets.{emptySet}
-use Rattle.registers.specs.Effect.{offBoard, exec, response}
-use Rattle.registers.specs.Replay.{zeroBoard, replayOn, replay}
+use Rattle.effects.specs.Effect.{offBoard, exec, response}
+use Rattle.effects.specs.Replay.{zeroBoard, replayOn, replay}
 use Rattle.registers.specs.Rollback.{savedOf, savedWord}
-use Rattle.slots.specs.Slots.{mostSlots}
+use Rattle.ordering.specs.Slots.{mostSlots}
 use Rattle.store.specs.Requests.{wordOf, mostWords}
 use Rattle.creek.specs.Plan.{lastEvent, lastClock}
 use Rattle.creek.specs.Execution.{operations}
@@ -77,7 +77,7 @@ first-memory panels own =
       known = emptySet;
       awaiting = emptySet;
       clocks = clocks i;
-      operations = asked i;
+      askings = asked i;
       contexts = contexts i;
       order = replicate mostSlots 0;
       stack = replicate mostSlots 0;

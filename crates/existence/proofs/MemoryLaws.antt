@@ -15,9 +15,9 @@ use Rattle.lists.proofs.AllLaws.{all-weaken, none-all}
 use Rattle.numbers.specs.declared.Number.{Number}
 use Rattle.request.specs.declared.Request.{Request}
 use Rattle.sets.specs.Sets.{member}
-use Rattle.slots.specs.Slots.{mostSlots}
+use Rattle.ordering.specs.Slots.{mostSlots}
 use Rattle.slots.specs.Marks.{Marks}
-use Rattle.slots.proofs.SlotLaws.{in-words-member}
+use Rattle.ordering.proofs.SlotLaws.{in-words-member}
 use Rattle.store.specs.Requests.{mostWords}
 use Rattle.creek.specs.Plan.{order, lastEvent, lastClock}
 use Rattle.creek.specs.Execution.{Execution, operations}
@@ -147,7 +147,7 @@ module _ (r : Replica) (s : Storable r) where
     lengths = record {
       requests = record {
         clocks = table-length mostSlots _;
-        operations = table-length mostSlots _;
+        askings = table-length mostSlots _;
         contexts = table-length mostWords _;
       };
       order = slots-length (heldBy r) (s .sound .few);

@@ -5,8 +5,8 @@ use mathlib.Core.List.{List, [], _∷_, _++_}
 use Rattle.lists.specs.Places.{All}
 use Rattle.lists.proofs.AllLaws.{all-append}
 use Rattle.creek.specs.Book.{execute}
-use Rattle.parts.specs.Integers.{integerAt}
-use Rattle.parts.specs.Widths.{decode}
+use Rattle.fields.specs.Integers.{integerAt}
+use Rattle.fields.specs.Widths.{decode}
 use Rattle.wire.specs.Layout.{kindWith, layout, widthsWith, leastSize, mostSize}
 use Rattle.wire.specs.Message.{messageFrom}
 use Rattle.wire.specs.Reader.{lengthAt, kindAt, runAt, fieldsAt, spareSet, refusalAs, readAs, readAt}

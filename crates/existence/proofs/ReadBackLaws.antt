@@ -21,8 +21,8 @@ use Rattle.sets.specs.Sets.{setOf, member}
 use Rattle.sets.proofs.SetLaws.{member-empty, member-join, join-length}
 use Rattle.request.specs.Request.{sameRequest}
 use Rattle.request.proofs.EqualityLaws.{sameRequest-sound, sameRequest-self}
-use Rattle.slots.specs.Slots.{mostSlots, IsSlot}
-use Rattle.slots.proofs.SlotLaws.{same-slot}
+use Rattle.ordering.specs.Slots.{mostSlots, IsSlot}
+use Rattle.ordering.proofs.SlotLaws.{same-slot}
 use Rattle.store.specs.Requests.{wordOf, askedIn, contextAt, requestAt}
 use Rattle.store.proofs.WordLaws.{asked-read}
 use Rattle.creek.specs.Plan.{hasNumber}

@@ -13,11 +13,11 @@ use Rattle.request.specs.Operations.{lastRegister}
 use Rattle.request.specs.Asked.{operationOf}
 use Rattle.effects.proofs.RegisterLaws.{exec-in-range}
 use Rattle.registers.specs.declared.Saved.{Saved}
-use Rattle.registers.specs.Effect.{range, offBoard, exec}
+use Rattle.effects.specs.Effect.{range, offBoard, exec}
 use Rattle.registers.specs.Rollback.{savedOf, savedWord, savedIn}
-use Rattle.registers.specs.Replay.{zeroBoard, replayOn, replay}
-use Rattle.registers.proofs.FrameLaws.{InRange}
-use Rattle.slots.specs.Slots.{mostSlots}
+use Rattle.effects.specs.Replay.{zeroBoard, replayOn, replay}
+use Rattle.effects.proofs.FrameLaws.{InRange}
+use Rattle.ordering.specs.Slots.{mostSlots}
 use Rattle.creek.specs.Execution.{operations}
 use Rattle.replica.specs.internal.Model.{operationAt, registersBefore, Log}
 use Rattle.existence.specs.Memory.{savedOn, responsesOn}

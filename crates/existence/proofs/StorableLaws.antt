@@ -16,7 +16,7 @@ use Rattle.numbers.proofs.NumberLaws.{sameNumber-sound}
 use Rattle.sets.specs.Sets.{member, join}
 use Rattle.sets.proofs.SetLaws.{member-empty, member-join}
 use Rattle.request.specs.Refusal as refused
-use Rattle.registers.specs.Effect.{range}
+use Rattle.effects.specs.Effect.{range}
 use Rattle.creek.specs.declared.Invocation.{Invocation}
 use Rattle.creek.specs.Plan.{Plan, order, entered, later, lastClock, atLeast, made, committing}
 use Rattle.creek.specs.Book.{Call, invoke, deliver, commit, undo, execute, emptyBook, refusal, accepted}

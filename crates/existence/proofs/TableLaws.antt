@@ -6,7 +6,7 @@ use mathlib.Core.List.{List, _∷_}
 use lib.ListN.{length, getD, replicate}
 use lib.Seq.{slice, length-slice, getD-drop, getD-take, ext-getD}
 use Rattle.numbers.specs.Numbers.{mostPanels}
-use Rattle.slots.specs.Slots.{IsSlot}
+use Rattle.ordering.specs.Slots.{IsSlot}
 use Rattle.store.specs.Requests.{mostWords}
 use Rattle.existence.specs.Memory.{table}
 

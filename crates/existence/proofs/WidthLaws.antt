@@ -14,7 +14,7 @@ use Rattle.request.specs.declared.Asked.{Asked}
 use Rattle.request.specs.declared.Request.{Request}
 use Rattle.request.specs.Asked.{operationOf, badAsked}
 use Rattle.request.specs.Operations.{badOperation, lastCode, lastRegister}
-use Rattle.registers.specs.Effect.{range}
+use Rattle.effects.specs.Effect.{range}
 use Rattle.store.proofs.WordLaws.{Narrow}
 use Rattle.existence.specs.Existence.{RequestFits}
 

@@ -14,11 +14,11 @@ use Rattle.request.specs.Operations.{badOperation}
 use Rattle.request.specs.Asked.{badAsked}
 use Rattle.request.specs.Order.{before}
 use Rattle.request.specs.Request.{badContext}
-use Rattle.registers.specs.Effect.{range, offBoard, exec}
+use Rattle.effects.specs.Effect.{range, offBoard, exec}
 use Rattle.registers.specs.Rollback.{savedOf, savedIn}
-use Rattle.registers.specs.Replay.{replayOn, replay}
+use Rattle.effects.specs.Replay.{replayOn, replay}
 use Rattle.registers.specs.declared.Saved.{Saved}
-use Rattle.slots.specs.Slots.{IsSlot}
+use Rattle.ordering.specs.Slots.{IsSlot}
 use Rattle.store.specs.Requests.{contextAt, requestAt}
 use Rattle.creek.specs.Plan.{lastEvent, lastClock, entered, atLeast, made, invokeRefusal, deliverRefusal}
 use Rattle.creek.specs.Execution.{adjusted, executedNext, executeRefusal}

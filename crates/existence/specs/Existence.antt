@@ -10,7 +10,7 @@ use Rattle.lists.specs.Places.{All}
 use Rattle.request.specs.declared.Request.{Request}
 use Rattle.numbers.specs.Numbers.{mostPanels}
 use Rattle.sets.specs.Sets.{setOf}
-use Rattle.registers.specs.Effect.{range}
+use Rattle.effects.specs.Effect.{range}
 use Rattle.creek.specs.Book.{Call, invoke, deliver, commit, undo, execute}
 use Rattle.creek.specs.examples.Notation.{read, strong}
 use Rattle.wire.specs.Reader.{readAt}

@@ -10,10 +10,10 @@ use Rattle.numbers.specs.Numbers.{panelNo, clockReading, mostPanels}
 use Rattle.numbers.specs.internal.Slots.{slotOf, numberOf}
 use Rattle.sets.specs.Sets.{emptySet, join}
 use Rattle.request.specs.Request.{noRequest}
-use Rattle.registers.specs.Effect.{response}
+use Rattle.effects.specs.Effect.{response}
 use Rattle.registers.specs.Rollback.{savedOf, savedWord}
-use Rattle.registers.specs.Replay.{replay}
-use Rattle.slots.specs.Slots.{mostSlots}
+use Rattle.effects.specs.Replay.{replay}
+use Rattle.ordering.specs.Slots.{mostSlots}
 use Rattle.store.specs.Requests.{wordOf, mostWords}
 use Rattle.creek.specs.Plan.{order, hasNumber, lastEvent, lastClock}
 use Rattle.creek.specs.Execution.{board, operations}
@@ -94,7 +94,7 @@ memoryOf r = record {
   known = r .book .plan .known;
   awaiting = r .awaiting;
   clocks = clocksOf (heldBy r);
-  operations = askedOf (heldBy r);
+  askings = askedOf (heldBy r);
   contexts = contextsOf (heldBy r);
   order = slotsOf (heldBy r);
   stack = slotsOf (boardBy r);

@@ -3,7 +3,7 @@ use Prim.Native.Nat.{ℕ}
 use mathlib.Core.Path.{_≡_, refl, sym, ap, _∙_, subst}
 use mathlib.Core.List.{List, []}
 use Rattle.request.specs.declared.Request.{Request}
-use Rattle.registers.specs.Replay.{replay}
+use Rattle.effects.specs.Replay.{replay}
 use Rattle.creek.specs.Plan.{order}
 use Rattle.creek.specs.Execution.{operations}
 use Rattle.creek.specs.Replies.{responseIn}

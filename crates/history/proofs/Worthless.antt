@@ -12,8 +12,8 @@ use Rattle.sets.specs.Sets.{allZero, isEmpty, namesFrom, bit, member, join, lea
 use Rattle.request.specs.Order.{before}
 use Rattle.request.specs.Request.{badContext}
 use Rattle.request.specs.Refusal as refused
-use Rattle.registers.specs.Effect.{offBoard, exec, response}
-use Rattle.registers.specs.Replay.{replayOn, replay}
+use Rattle.effects.specs.Effect.{offBoard, exec, response}
+use Rattle.effects.specs.Replay.{replayOn, replay}
 use Rattle.creek.specs.declared.Answer.{Answer}
 use Rattle.creek.specs.Plan.{lastEvent, lastClock, entered, atLeast, made, invokeRefusal, deliverRefusal}
 use Rattle.creek.specs.Execution.{operations, registers, adjusted, executedNext, executeRefusal}
@@ -27,8 +27,8 @@ use Rattle.creek.specs.declared.Reply.{Reply}
 use Rattle.replica.specs.Promises.{Fresh}
 use Rattle.replica.specs.internal.Model.{model, Inv}
 use Rattle.due.specs.Due.{noReply, RunDue}
-use Rattle.parts.specs.Integers.{integerAt}
-use Rattle.parts.specs.Widths.{decode}
+use Rattle.fields.specs.Integers.{integerAt}
+use Rattle.fields.specs.Widths.{decode}
 use Rattle.wire.specs.Layout.{kindWith, layout, widthsWith, leastSize, mostSize}
 use Rattle.wire.specs.Message.{messageFrom}
 use Rattle.wire.specs.Reader.{lengthAt, kindAt, runAt, fieldsAt, spareSet, refusalAs, readAs, readAt}

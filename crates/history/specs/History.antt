@@ -10,7 +10,7 @@ use lib.ListN.{length, replicate}
 use lib.Dec.{eqb}
 use Rattle.request.specs.Order.{before}
 use Rattle.request.specs.Refusal as refused
-use Rattle.registers.specs.Replay.{replay}
+use Rattle.effects.specs.Replay.{replay}
 use Rattle.lists.specs.Lists.{keep, Ordered}
 use Rattle.creek.specs.declared.Answer.{Answer}
 use Rattle.creek.specs.Execution.{board, operations, owed, isIdle}

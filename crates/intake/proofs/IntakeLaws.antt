@@ -9,8 +9,8 @@ use Rattle.numbers.specs.declared.PanelNo.{PanelNo}
 use Rattle.sets.specs.Sets.{setOf}
 use Rattle.request.specs.declared.Asked.{Asked}
 use Rattle.request.specs.declared.Request.{Request}
-use Rattle.parts.specs.Widths.{settlementWidths, weakWidths, decode}
-use Rattle.parts.specs.Contents.{numberFrom, clockFrom, askedFrom, requestFrom}
+use Rattle.fields.specs.Widths.{settlementWidths, weakWidths, decode}
+use Rattle.fields.specs.Contents.{numberFrom, clockFrom, askedFrom, requestFrom}
 use Rattle.store.specs.Requests.{requestOf}
 use Rattle.request.specs.Refusal.{accepted}
 use Rattle.creek.specs.declared.Answer.{Answer}

@@ -4,9 +4,9 @@
 // what receiving promises.
 use creek::Answer;
 use creek::Reply;
+use fields::places;
+use fields::reading;
 use numbers::PanelNo;
-use parts::places;
-use parts::reading;
 use request::refusal;
 use wire::HeadAnswer;
 use wire::Kind;
@@ -14,8 +14,8 @@ ghost use mathlib.Core.Path.{_≡_};
 ghost use Prim.Native.Nat.{_+_, _≤_};
 ghost use lib.ListN.{length, replicate};
 ghost use Rattle.numbers.specs.Numbers.{mostPanels};
-ghost use Rattle.parts.specs.Widths.{weakWidths, size, decode};
-ghost use Rattle.parts.specs.Contents.{requestFrom};
+ghost use Rattle.fields.specs.Widths.{weakWidths, size, decode};
+ghost use Rattle.fields.specs.Contents.{requestFrom};
 ghost use Rattle.creek.specs.Book.{deliver as deliverCall};
 ghost use Rattle.creek.specs.Replies.{replyAnswer};
 ghost use Rattle.replica.specs.internal.Parts.{KeptBy};
@@ -45,7 +45,7 @@ pub fn receive<'a>(
     known: &mut [u64; 8],
     awaiting: &mut [u64; 8],
     clocks: &mut [u32; 512],
-    operations: &mut [u64; 512],
+    askings: &mut [u64; 512],
     contexts: &mut [u64; 4096],
     order: &mut [u16; 512],
     stack: &'a [u16; 512],
@@ -53,10 +53,10 @@ pub fn receive<'a>(
     settled: &mut [u64; 8],
 ) -> Receipt
     requires { ⌜ TakeAsks panels own
-        (lentNow committed ordered executed commits held known awaiting clocks operations contexts order stack responses settled) ⌝ }
+        (lentNow committed ordered executed commits held known awaiting clocks askings contexts order stack responses settled) ⌝ }
     ensures { λ r. ⌜ ReceiveKept panels own
-        (lentEntry committed ordered executed commits held known awaiting clocks operations contexts order stack responses settled) (readAt (now (bytes .entry)) at)
-        (lentExit committed ordered executed commits held known awaiting clocks operations contexts order stack responses settled) r ⌝ }
+        (lentEntry committed ordered executed commits held known awaiting clocks askings contexts order stack responses settled) (readAt (now (bytes .entry)) at)
+        (lentExit committed ordered executed commits held known awaiting clocks askings contexts order stack responses settled) r ⌝ }
 {
     let head = wire::head_at(bytes, at);
     let found = head.answer;
@@ -76,7 +76,7 @@ pub fn receive<'a>(
                 known,
                 awaiting,
                 clocks,
-                operations,
+                askings,
                 contexts,
                 order,
                 stack,
@@ -109,7 +109,7 @@ fn take_at<'a>(
     known: &mut [u64; 8],
     awaiting: &mut [u64; 8],
     clocks: &mut [u32; 512],
-    operations: &mut [u64; 512],
+    askings: &mut [u64; 512],
     contexts: &mut [u64; 4096],
     order: &mut [u16; 512],
     stack: &'a [u16; 512],
@@ -118,10 +118,10 @@ fn take_at<'a>(
 ) -> Reply
     requires { ⌜ GoodHead kind (now bytes) at ⌝ }
     requires { ⌜ TakeAsks panels own
-        (lentNow committed ordered executed commits held known awaiting clocks operations contexts order stack responses settled) ⌝ }
+        (lentNow committed ordered executed commits held known awaiting clocks askings contexts order stack responses settled) ⌝ }
     ensures { λ r. ⌜ Taken panels own
-        (lentEntry committed ordered executed commits held known awaiting clocks operations contexts order stack responses settled) (messageAt kind (now (bytes .entry)) at)
-        (lentExit committed ordered executed commits held known awaiting clocks operations contexts order stack responses settled) (replyAnswer r) ⌝ }
+        (lentEntry committed ordered executed commits held known awaiting clocks askings contexts order stack responses settled) (messageAt kind (now (bytes .entry)) at)
+        (lentExit committed ordered executed commits held known awaiting clocks askings contexts order stack responses settled) (replyAnswer r) ⌝ }
 {
     match kind {
         Kind::Weak => hear_at(
@@ -138,7 +138,7 @@ fn take_at<'a>(
             known,
             awaiting,
             clocks,
-            operations,
+            askings,
             contexts,
             order,
             stack,
@@ -159,7 +159,7 @@ fn take_at<'a>(
             known,
             awaiting,
             clocks,
-            operations,
+            askings,
             contexts,
             order,
             stack,
@@ -179,7 +179,7 @@ fn take_at<'a>(
                 known,
                 awaiting,
                 clocks,
-                operations,
+                askings,
                 contexts,
                 order,
                 stack,
@@ -206,7 +206,7 @@ fn hear_at<'a>(
     known: &mut [u64; 8],
     awaiting: &mut [u64; 8],
     clocks: &mut [u32; 512],
-    operations: &mut [u64; 512],
+    askings: &mut [u64; 512],
     contexts: &mut [u64; 4096],
     order: &mut [u16; 512],
     stack: &'a [u16; 512],
@@ -215,11 +215,11 @@ fn hear_at<'a>(
 ) -> Reply
     requires { ⌜ at + size weakWidths + contextSize strong ≤ length (now bytes) ⌝ }
     requires { ⌜ TakeAsks panels own
-        (lentNow committed ordered executed commits held known awaiting clocks operations contexts order stack responses settled) ⌝ }
+        (lentNow committed ordered executed commits held known awaiting clocks askings contexts order stack responses settled) ⌝ }
     ensures { λ r. ⌜ heardAt panels own
-        (lentEntry committed ordered executed commits held known awaiting clocks operations contexts order stack responses settled)
+        (lentEntry committed ordered executed commits held known awaiting clocks askings contexts order stack responses settled)
         (requestFrom (decode weakWidths (now (bytes .entry)) at) strong (contextIn strong (now (bytes .entry)) at))
-        (lentExit committed ordered executed commits held known awaiting clocks operations contexts order stack responses settled) (replyAnswer r) ⌝ }
+        (lentExit committed ordered executed commits held known awaiting clocks askings contexts order stack responses settled) (replyAnswer r) ⌝ }
 {
     let mut words = [0u64; 8];
     put_context(&mut words, bytes, at, strong);
@@ -236,7 +236,7 @@ fn hear_at<'a>(
         held,
         known,
         clocks,
-        operations,
+        askings,
         contexts,
         order,
         number,

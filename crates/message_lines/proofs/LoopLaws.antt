@@ -6,8 +6,8 @@ use native.Mathlib.Numerals.{add-one}
 use native.Mathlib.Omega.{arith}
 use lib.ListN.{length}
 use Rattle.numbers.specs.declared.Number.{Number}
-use Rattle.parts.specs.Widths.{settlementWidths, decode}
-use Rattle.parts.specs.Contents.{numberFrom}
+use Rattle.fields.specs.Widths.{settlementWidths, decode}
+use Rattle.fields.specs.Contents.{numberFrom}
 use Rattle.text.specs.Placed.{Placed}
 use Rattle.text.proofs.PlacedLaws.{Left, left-start, left-step, left-end}
 use Rattle.report.specs.Lines.{messageLine, unreadLine}

@@ -1,10 +1,10 @@
 // The messages of the printout: each that is found in the input is received by the panel, and its line is put into lent bytes.
 //
 // The panel's memory is lent whole, and the contract speaks of it as one memory.
+use fields::integers;
+use fields::places;
+use fields::reading;
 use numbers::PanelNo;
-use parts::integers;
-use parts::places;
-use parts::reading;
 ghost use Prim.Native.Nat.{_+_, _*_, _≤_};
 ghost use lib.ListN.{length};
 ghost use Rattle.report.specs.Sizes.{mostMessageBytes};
@@ -70,7 +70,7 @@ pub fn put_messages(
     known: &mut [u64; 8],
     awaiting: &mut [u64; 8],
     clocks: &mut [u32; 512],
-    operations: &mut [u64; 512],
+    askings: &mut [u64; 512],
     contexts: &mut [u64; 4096],
     order: &mut [u16; 512],
     stack: &mut [u16; 512],
@@ -81,16 +81,16 @@ pub fn put_messages(
 ) -> usize
     requires { ⌜ Inv
         (wholeNow panels own committed ordered executed stacked commits clock events undos executions held known awaiting clocks
-        operations contexts order stack registers saved responses settled) ⌝ }
+        askings contexts order stack registers saved responses settled) ⌝ }
     requires { ⌜ shopBytes ≤ length (now input) ⌝ }
     requires { ⌜ length (now input) ≤ mostInput ⌝ }
     requires { ⌜ from + mostMessages * mostMessageBytes ≤ length (now out) ⌝ }
     ensures { λ r. ⌜ AllPut
         (wholeEntry panels own committed ordered executed stacked commits clock events undos executions held known awaiting clocks
-        operations contexts order stack registers saved responses settled)
+        askings contexts order stack registers saved responses settled)
         (now (input .entry)) (now (out .entry)) from
         (wholeExit panels own committed ordered executed stacked commits clock events undos executions held known awaiting clocks
-        operations contexts order stack registers saved responses settled)
+        askings contexts order stack registers saved responses settled)
         (now (out .exit)) r ⌝ }
 {
     let mut at = SHOP_BYTES;
@@ -110,7 +110,7 @@ pub fn put_messages(
             known,
             awaiting,
             clocks,
-            operations,
+            askings,
             contexts,
             order,
             stack,
@@ -128,7 +128,7 @@ pub fn put_messages(
             executed,
             stacked,
             awaiting,
-            operations,
+            askings,
             order,
             stack,
             registers,

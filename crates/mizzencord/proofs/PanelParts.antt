@@ -92,8 +92,8 @@ awaiting-field = 12
 abbrev pub clocks-field : ℕ
 clocks-field = 13
 
-abbrev pub operations-field : ℕ
-operations-field = 14
+abbrev pub askings-field : ℕ
+askings-field = 14
 
 abbrev pub contexts-field : ℕ
 contexts-field = 15
@@ -131,7 +131,7 @@ module _ {M : Type 1} (𝓤 : URA M) (H : Heap 𝓤) (A : Atoms 𝓤) (W : Given
     same : (p : Panel) → partsAt t ms zero (T.the-type .to p) b o ≡ all-fields b o t panelFields (parts p)
     unfolding partOf
     same p = λ i. partsAt t ms zero
-        (p .committed, (p .ordered, (p .executed, (p .stacked, (p .commits, (p .clock, (Cs.the-type .to (p .counters), (p .panels, (Pa.the-type .to (p .own), (p .events, (map-id (p .held) i, (map-id (p .known) i, (map-id (p .awaiting) i, (map-id (p .clocks) i, (map-id (p .operations) i, (map-id (p .contexts) i, (map-id (p .order) i, (map-id (p .stack) i, (map-id (p .registers) i, (map-id (p .saved) i, (map-id (p .responses) i, (map-id (p .settled) i, tt)))))))))))))))))))))) b o
+        (p .committed, (p .ordered, (p .executed, (p .stacked, (p .commits, (p .clock, (Cs.the-type .to (p .counters), (p .panels, (Pa.the-type .to (p .own), (p .events, (map-id (p .held) i, (map-id (p .known) i, (map-id (p .awaiting) i, (map-id (p .clocks) i, (map-id (p .askings) i, (map-id (p .contexts) i, (map-id (p .order) i, (map-id (p .stack) i, (map-id (p .registers) i, (map-id (p .saved) i, (map-id (p .responses) i, (map-id (p .settled) i, tt)))))))))))))))))))))) b o
 
     apart : (p : Panel) → ent 𝓤 (sem 𝓤 H A (partAt T.the-row t p b o)) (sep 𝓤 (sem 𝓤 H A (all-fields b o t panelFields (parts p))) Back)
     unfolding partOf

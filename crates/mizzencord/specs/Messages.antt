@@ -8,7 +8,7 @@ use Rattle.wire.specs.declared.Reading.{Reading}
 use Rattle.wire.specs.Message.{noMessage}
 use Rattle.wire.specs.Reader.{refusalOf}
 use Rattle.mizzencord.specs.declared.bytes.Message.{Message}
-use Rattle.mizzencord.specs.declared.bytes.MessageRead.{MessageRead}
+use Rattle.mizzencord.specs.declared.bytes.Reading.{Reading}
 
 -- whether a message settles, by its subject
 abbrev pub settlesBy : Subject → Bool
@@ -25,13 +25,13 @@ abbrev pub shownFor : Held → Message
 shownFor m = record { settles = settlesBy (m .subject); request = m .request }
 
 -- the message that C holds
-abbrev pub heldFor : Message → Held
-heldFor m = record { subject = subjectBy (m .settles); request = m .request }
+abbrev pub messageFor : Message → Held
+messageFor m = record { subject = subjectBy (m .settles); request = m .request }
 
 -- the refusal's number, 0 for a message and for the end; the bytes taken; and the message
-abbrev pub readFrom : Reading → MessageRead
+abbrev pub readFrom : Reading → Reading
 readFrom r = record { refusal = refusalOf (r .answer); taken = r .taken; message = shownFor (r .message) }
 
 -- no message, by that refusal: zeros elsewhere
-abbrev pub unread : ℕ → MessageRead
+abbrev pub unread : ℕ → Reading
 unread w = record { refusal = w; taken = 0; message = shownFor noMessage }

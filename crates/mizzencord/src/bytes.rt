@@ -1,7 +1,7 @@
 // The calls on bytes without a panel: a message read, and one written. Each lent slice crosses as a pointer and a length.
 //
 // The contracts are those of `wire`.
-use parts::reading;
+use fields::reading;
 use request::Request;
 use request::refusal;
 use wire::HeadAnswer;
@@ -9,11 +9,11 @@ use wire::Kind;
 use wire::Subject;
 use wire::Written;
 ghost use mathlib.Core.Path.{_≡_};
-ghost use Rattle.wire.specs.Message.{held};
+ghost use Rattle.wire.specs.Message.{asMessage};
 ghost use Rattle.wire.specs.Reader.{answered, readAt};
 ghost use Rattle.wire.specs.Head.{GoodHead, messageAt};
 ghost use Rattle.wire.specs.Writer.{Wrote};
-ghost use Rattle.mizzencord.specs.Messages.{subjectBy, heldFor, shownFor, readFrom, unread as unreadBy};
+ghost use Rattle.mizzencord.specs.Messages.{subjectBy, messageFor, shownFor, readFrom, unread as unreadBy};
 
 // A message as C holds it: the request, or the settlement of its number, for which the other fields stand for nothing. An enum does not
 // cross to C.
@@ -25,7 +25,7 @@ pub struct Message {
 
 // What stands at a place: the message, the bytes taken and the refusal, zeros where there is none.
 #[repr(C)]
-pub struct MessageRead {
+pub struct Reading {
     pub message: Message,
     pub taken: usize,
     pub refusal: u8,
@@ -33,7 +33,7 @@ pub struct MessageRead {
 
 // Reads the message at a place of `bytes`; at the end nothing is taken and nothing refused.
 #[no_mangle]
-pub extern "C" fn mizzencord_read(bytes: &[u8], at: usize) -> MessageRead
+pub extern "C" fn mizzencord_read(bytes: &[u8], at: usize) -> Reading
     ensures { λ r. ⌜ r ≡ readFrom (answered (readAt (now (bytes .entry)) at)) ⌝ }
 {
     let head = wire::head_at(bytes, at);
@@ -41,7 +41,7 @@ pub extern "C" fn mizzencord_read(bytes: &[u8], at: usize) -> MessageRead
     match answer {
         HeadAnswer::Good(kind) => {
             let message = message_at(bytes, at, kind);
-            MessageRead {
+            Reading {
                 refusal: refusal::ACCEPTED,
                 taken: head.taken,
                 message,
@@ -55,18 +55,18 @@ pub extern "C" fn mizzencord_read(bytes: &[u8], at: usize) -> MessageRead
 // Writes a message at the front of `out`: exactly its bytes, or nothing where it is refused.
 #[no_mangle]
 pub extern "C" fn mizzencord_write(message: Message, out: &mut [u8]) -> Written
-    ensures { λ r. ⌜ Wrote (heldFor message) (now (out .entry)) (now (out .exit)) r ⌝ }
+    ensures { λ r. ⌜ Wrote (messageFor message) (now (out .entry)) (now (out .exit)) r ⌝ }
 {
     let subject = subject_of(message.settles);
     let request = message.request;
-    let held = wire::Message { subject, request };
-    wire::write(out, held)
+    let m = wire::Message { subject, request };
+    wire::write(out, m)
 }
 
 // The message at a place with a good head of its kind, its fields straight from the bytes.
 fn message_at(s: &[u8], at: usize, kind: Kind) -> Message
     requires { ⌜ GoodHead kind (now s) at ⌝ }
-    ensures { λ r. ⌜ r ≡ shownFor (held (messageAt kind (now (s .entry)) at)) ⌝ }
+    ensures { λ r. ⌜ r ≡ shownFor (asMessage (messageAt kind (now (s .entry)) at)) ⌝ }
 {
     match kind {
         Kind::Weak => {
@@ -97,7 +97,7 @@ fn message_at(s: &[u8], at: usize, kind: Kind) -> Message
 }
 
 // No message, by that refusal.
-fn unread(refusal: u8) -> MessageRead
+fn unread(refusal: u8) -> Reading
     ensures { λ r. ⌜ r ≡ unreadBy refusal ⌝ }
 {
     let request = request::none();
@@ -105,7 +105,7 @@ fn unread(refusal: u8) -> MessageRead
         settles: false,
         request,
     };
-    MessageRead {
+    Reading {
         refusal,
         taken: 0,
         message,

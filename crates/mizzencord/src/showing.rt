@@ -82,7 +82,7 @@ pub extern "C" fn mizzencord_at_place(p: &Panel, place: usize) -> PlacedRequest
     replica::at_place(
         p.ordered,
         &p.clocks,
-        &p.operations,
+        &p.askings,
         &p.contexts,
         &p.order,
         place,

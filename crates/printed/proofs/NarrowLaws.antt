@@ -16,17 +16,18 @@ use Rattle.numbers.specs.Numbers.{badNumber}
 use Rattle.request.specs.Asked.{badAsked}
 use Rattle.request.specs.Request.{sameRequest, badContext}
 use Rattle.request.specs.Refusal as refusedBy
-use Rattle.registers.specs.Effect.{range}
+use Rattle.effects.specs.Effect.{range}
 use Rattle.creek.specs.Plan.{Plan, held, isOf, heldRefusal, deliverRefusal, isCommitted, waits, foundRefusal, commitRefusal}
 use Rattle.creek.specs.Book.{Book, refusal}
 use Rattle.creek.specs.Calls.{Replica, answer}
 use Rattle.creek.proofs.CallLaws.{answer-refusal}
-use Rattle.parts.specs.Widths.{panelField, eventField, amountField}
-use Rattle.parts.proofs.IntegerLaws.{Bytes}
-use Rattle.parts.proofs.WidthLaws.{decode-within, within-drop}
+use Rattle.fields.specs.Widths.{panelField, eventField, amountField}
+use Rattle.fields.proofs.IntegerLaws.{Bytes}
+use Rattle.fields.proofs.WidthLaws.{decode-within, within-drop}
 use Rattle.wire.specs.declared.Kind.{Kind}
 use Rattle.wire.specs.declared.Kind.the-variants.{Weak, Strong, Settlement}
-use Rattle.wire.specs.Layout.{kindWith, leastSize, mostSize, headSize, layout, widthsWith, decode, Within}
+use Rattle.wire.specs.Layout.{kindWith, leastSize, mostSize, layout, widthsWith}
+use Rattle.fields.specs.Widths.{headSize, decode, Within}
 use Rattle.wire.specs.Message.{BusMessage, request, settlement, messageFrom}
 use Rattle.wire.specs.Reader.{Outcome, message, end, refused, refusalOf, answered, lengthAt, kindAt, runAt, fieldsAt, spareSet}
 use Rattle.wire.specs.Reader.{refusalAs, readAs, readWith, readAt}

@@ -18,10 +18,10 @@ use Rattle.request.specs.Operations.{lastRegister}
 use Rattle.request.specs.Refusal as refusedBy
 use Rattle.request.specs.Asked.{operationOf}
 use Rattle.effects.proofs.RegisterLaws.{exec-in-range}
-use Rattle.registers.specs.Effect.{range, exec}
-use Rattle.registers.specs.Replay.{zeroBoard, replayOn, replay}
-use Rattle.registers.proofs.FrameLaws.{InRange}
-use Rattle.registers.proofs.ReplayLaws.{replay-length}
+use Rattle.effects.specs.Effect.{range, exec}
+use Rattle.effects.specs.Replay.{zeroBoard, replayOn, replay}
+use Rattle.effects.proofs.FrameLaws.{InRange}
+use Rattle.effects.proofs.ReplayLaws.{replay-length}
 use Rattle.creek.specs.Plan.{order}
 use Rattle.creek.specs.Execution.{registers, board, operations}
 use Rattle.creek.specs.Book.{refusal, accepted}
@@ -36,7 +36,7 @@ use Rattle.creek.proofs.CommittedLaws.{committing-count}
 use Rattle.creek.proofs.SoundLaws.{step-sound, fresh-sound}
 use Rattle.creek.proofs.DueLaws.{later-plan, later-sound}
 use Rattle.creek.proofs.BoundLaws.{few-undos}
-use Rattle.parts.proofs.IntegerLaws.{Bytes}
+use Rattle.fields.proofs.IntegerLaws.{Bytes}
 use Rattle.wire.specs.Layout.{leastMessage}
 use Rattle.wire.specs.Message.{BusMessage, request, settlement, kindOf}
 use Rattle.wire.specs.Reader.{Outcome, message, end, refused, readAt}

@@ -10,8 +10,8 @@ use Rattle.request.specs.Order.{before}
 use Rattle.request.specs.Request.{sameRequest, badContext}
 use Rattle.sets.specs.Sets.{sameWords, sameContext, allZero, isEmpty, namesFrom, bit, member, join}
 use Rattle.sets.specs.Sets.{lackedWords, difference, subset}
-use Rattle.registers.specs.Effect.{offBoard, added, claimed, exec}
-use Rattle.registers.specs.Replay.{replayOn, replay}
+use Rattle.effects.specs.Effect.{offBoard, added, claimed, exec}
+use Rattle.effects.specs.Replay.{replayOn, replay}
 use Rattle.creek.specs.Plan.{entered, committing, committingFound, deliverRefusal, commitRefusal}
 use Rattle.creek.specs.Execution.{registers, adjusted, undone, undoRefusal, executedNext, executeRefusal}
 use Rattle.creek.specs.Book.{refusal, accepted}
@@ -20,7 +20,8 @@ use Rattle.creek.specs.Replies.{stableReplyDue, acceptedAnswer, answerOf, accep
 use Rattle.creek.specs.Calls.{badShop, fresh, accept, step}
 use Rattle.creek.specs.History.{afterDueSteps}
 use Rattle.wire.specs.Integers.{integerAt}
-use Rattle.wire.specs.Layout.{kindWith, layout, widthsWith, leastSize, mostSize, decode}
+use Rattle.wire.specs.Layout.{kindWith, layout, widthsWith, leastSize, mostSize}
+use Rattle.fields.specs.Widths.{decode}
 use Rattle.wire.specs.Message.{kindOf, messageFrom}
 use Rattle.wire.specs.Reader.{lengthAt, kindAt, runAt, fieldsAt, spareSet, refusalAs, readAs, readAt}
 use Rattle.report.specs.Lines.{boardLine, messageLine, totalsLine, registerLine, lineUnlessZero, registerLinesFrom, registerLines}

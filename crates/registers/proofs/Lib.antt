@@ -1,5 +1,3 @@
--- The laws of rolling back, for the crates above; and those of `effects` that these cite, passed on.
+-- The laws of rolling back, for the crates above.
 pub mod RollbackLaws
 pub mod ReplayLaws
-pub mod SumLaws
-pub mod FrameLaws

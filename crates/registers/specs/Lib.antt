@@ -1,7 +1,2 @@
--- What is saved and rolled back; and the definitions of `effects`, passed on, so that the crates above name one crate.
+-- What is saved and rolled back.
 pub mod Rollback
-pub mod Effect
-pub mod Touched
-pub mod Replay
-pub mod Moves
-pub mod Claims

@@ -1,27 +1,16 @@
-// The 64 registers: what to save before an operation, executing it, and rolling it back from what was saved.
+// The 64 registers: what to save before an operation, and rolling it back from what was saved.
 //
-// `exec`, `response` and `replay` say what operations do; callers use them and the laws in `proofs/`. The definitions and their laws are
-// those of `effects`, executing is `executing`'s, and both are passed on here.
-// Every function takes any operation: one that names a register over 63 saves zeros, changes nothing and responds 0.
-pub use executing::execute;
-pub use executing::execute_due;
+// What operations do is said in `effects`, and executing one is `executing`'s; the laws of rolling back are in `proofs/`. Every function
+// takes any operation: one that names a register over 63 saves zeros and changes nothing.
 use request::Operation;
 use request::operations;
 ghost use mathlib.Core.Path.{_≡_};
 ghost use Rattle.registers.specs.Rollback.{savedOf, restored, savedIn, SavedAs};
-ghost use Rattle.effects.specs.Replay.{zeroBoard};
 
 // The values of registers r and q from before an operation. Only this crate looks inside.
 pub struct Saved {
     r: u32,
     q: u32,
-}
-
-// All registers at 0.
-pub fn zero_board() -> [u32; 64]
-    ensures { λ b. ⌜ b ≡ zeroBoard ⌝ }
-{
-    [0u32; 64]
 }
 
 // What to save before o; the registers are left alone.

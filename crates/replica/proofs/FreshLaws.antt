@@ -13,12 +13,12 @@ use Rattle.numbers.specs.Numbers.{panelNo, mostPanels}
 use Rattle.request.specs.Refusal as refused
 use Rattle.sets.specs.Sets.{emptySet}
 use Rattle.sets.proofs.SetLaws.{member-empty}
-use Rattle.registers.proofs.ReplayLaws.{replay-nothing}
+use Rattle.effects.proofs.ReplayLaws.{replay-nothing}
 use Rattle.creek.specs.Plan.{lastEvent, lastClock}
 use Rattle.creek.specs.Book.{emptyBook}
 use Rattle.creek.specs.Calls.{badShop, replicaOf, fresh, freshRefusal}
-use Rattle.slots.specs.Slots.{mostSlots}
-use Rattle.slots.proofs.SlotLaws.{in-words-member}
+use Rattle.ordering.specs.Slots.{mostSlots}
+use Rattle.ordering.proofs.SlotLaws.{in-words-member}
 use Rattle.store.specs.Requests.{mostWords}
 use Rattle.creek.specs.internal.Sound.{mostRequests}
 use Rattle.creek.proofs.SoundLaws.{fresh-sound}
@@ -62,7 +62,7 @@ module _ (panels : ℕ) (own : PanelNo) (good : GoodShop panels (own .0)) where
     lengths = record {
       requests = record {
         clocks = length-replicate {A = ℕ} mostSlots 0;
-        operations = length-replicate {A = ℕ} mostSlots 0;
+        askings = length-replicate {A = ℕ} mostSlots 0;
         contexts = length-replicate {A = ℕ} mostWords 0;
       };
       order = length-replicate {A = ℕ} mostRequests 0;

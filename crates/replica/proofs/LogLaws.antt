@@ -11,10 +11,11 @@ use Rattle.request.specs.declared.Request.{Request}
 use Rattle.request.specs.Operations.{noOperation}
 use Rattle.request.specs.Asked.{operationOf}
 use Rattle.registers.specs.declared.Saved.{Saved}
-use Rattle.registers.specs.Effect.{exec, response, Executed}
+use Rattle.effects.specs.Effect.{exec, response, Executed}
 use Rattle.registers.specs.Rollback.{savedOf, savedIn, restored}
-use Rattle.registers.specs.Replay.{replay}
-use Rattle.registers.proofs.ReplayLaws.{replay-more, replay-rolled-back}
+use Rattle.effects.specs.Replay.{replay}
+use Rattle.effects.proofs.ReplayLaws.{replay-more}
+use Rattle.registers.proofs.ReplayLaws.{replay-rolled-back}
 use Rattle.creek.specs.Execution.{operations}
 use Rattle.replica.specs.internal.Model.{operationAt, registersBefore, savedAt, Log}
 

@@ -17,9 +17,9 @@ use Rattle.request.specs.declared.Request.{Request}
 use Rattle.request.specs.Order.{before}
 use Rattle.numbers.specs.internal.Slots.{slotOf}
 use Rattle.numbers.proofs.NumberLaws.{slot-of-number}
-use Rattle.slots.specs.Slots.{IsSlot}
+use Rattle.ordering.specs.Slots.{IsSlot}
 use Rattle.creek.specs.Plan.{order, hasNumber}
-use Rattle.registers.specs.Replay.{replay}
+use Rattle.effects.specs.Replay.{replay}
 use Rattle.creek.specs.Execution.{operations, registers}
 use Rattle.creek.specs.internal.Sound.{SoundPlan}
 use Rattle.creek.proofs.StackLaws.{stacked-board}
@@ -31,7 +31,7 @@ use Rattle.replica.specs.internal.Model.{requestsAt, orderSlots, boardSl
 
 -- the request at a slot of that state
 abbrev pub requestOf : State → ℕ → Request
-requestOf q slot = requestAt (q .clocks) (q .operations) (q .contexts) slot
+requestOf q slot = requestAt (q .clocks) (q .askings) (q .contexts) slot
 
 -- the slot on top of the board
 abbrev pub topSlot : State → ℕ

@@ -22,33 +22,33 @@ use Rattle.sets.specs.Sets.{member}
 use Rattle.request.specs.Request.{sameRequest}
 use Rattle.numbers.proofs.NumberLaws.{sameNumber-self, slot-fits, number-of-slot}
 use Rattle.request.proofs.EqualityLaws.{sameRequest-sound, sameRequest-self}
-use Rattle.slots.specs.Slots.{IsSlot}
-use Rattle.slots.proofs.SlotLaws.{same-slot}
+use Rattle.ordering.specs.Slots.{IsSlot}
+use Rattle.ordering.proofs.SlotLaws.{same-slot}
 use Rattle.creek.specs.Plan.{order, hasNumber, held}
 use Rattle.replica.specs.State.{State}
 use Rattle.store.specs.Requests.{requestAt}
 use Rattle.replica.specs.internal.Model.{orderSlots, planOf, Inv}
 use Rattle.replica.proofs.ModelLaws.{order-planned}
 
-module _ (clocks operations contexts : List ℕ) where
+module _ (clocks askings contexts : List ℕ) where
   -- the requests at two slots are equal exactly where the slots are
-  pub same-request : (s t : ℕ) → IsSlot s → IsSlot t → sameRequest (requestAt clocks operations contexts s) (requestAt clocks operations contexts t) ≡ eqb s t
+  pub same-request : (s t : ℕ) → IsSlot s → IsSlot t → sameRequest (requestAt clocks askings contexts s) (requestAt clocks askings contexts t) ≡ eqb s t
   unfolding requestAt
   same-request s t hs ht = same-test _ _ apart together
     where
-      apart : sameRequest (requestAt clocks operations contexts s) (requestAt clocks operations contexts t) ≡ true → eqb s t ≡ true
+      apart : sameRequest (requestAt clocks askings contexts s) (requestAt clocks askings contexts t) ≡ true → eqb s t ≡ true
       apart e =
           let one-number : numberOf s ≡ numberOf t = ap (λ (x : Request). x .number) (sameRequest-sound _ _ e) in
           sym (same-slot s t hs ht) ∙ ap (sameNumber (numberOf s)) (sym one-number) ∙ sameNumber-self (numberOf s)
 
-      together : eqb s t ≡ true → sameRequest (requestAt clocks operations contexts s) (requestAt clocks operations contexts t) ≡ true
+      together : eqb s t ≡ true → sameRequest (requestAt clocks askings contexts s) (requestAt clocks askings contexts t) ≡ true
       together e =
-          ap (λ (u : ℕ). sameRequest (requestAt clocks operations contexts s) (requestAt clocks operations contexts u)) (sym (eqb-true s t e))
-          ∙ sameRequest-self (requestAt clocks operations contexts s)
+          ap (λ (u : ℕ). sameRequest (requestAt clocks askings contexts s) (requestAt clocks askings contexts u)) (sym (eqb-true s t e))
+          ∙ sameRequest-self (requestAt clocks askings contexts s)
 
   -- the request at a slot has the number n exactly where it is n's slot
   pub number-at : (n : Number) → GoodNumber mostPanels n → (t : ℕ) → IsSlot t
-      → hasNumber n (requestAt clocks operations contexts t) ≡ eqb (slotOf n) t
+      → hasNumber n (requestAt clocks askings contexts t) ≡ eqb (slotOf n) t
   unfolding requestAt
   number-at n good t h =
       ap (λ (m : Number). sameNumber m (numberOf t)) (sym (number-of-slot n good)) ∙ same-slot (slotOf n) t (slot-fits n good) h
@@ -59,10 +59,10 @@ tentativeSlots p = slice (p .committed) (p .ordered) (p .order)
 
 module _ (p : State) (inv : Inv p) (n : Number) (good : GoodNumber mostPanels n) where
   abbrev at : ℕ → Request
-  at = requestAt (p .clocks) (p .operations) (p .contexts)
+  at = requestAt (p .clocks) (p .askings) (p .contexts)
 
   by-slot : All (λ t. hasNumber n (at t) ≡ eqb (slotOf n) t) (orderSlots p)
-  by-slot = all-weaken (number-at (p .clocks) (p .operations) (p .contexts) n good) (orderSlots p) (inv .order-slots)
+  by-slot = all-weaken (number-at (p .clocks) (p .askings) (p .contexts) n good) (orderSlots p) (inv .order-slots)
 
   -- the set of numbers held counts n's slot
   pub slot-count : count (eqb (slotOf n)) (orderSlots p) ≡ one (member (p .held) n)
@@ -82,7 +82,7 @@ module _ (p : State) (inv : Inv p) (n : Number) (good : GoodNumber mostPanels n)
       ∙ find-map at (hasNumber n) (orderSlots p)
       ∙ ap (Option·map at) (find-agree _ _ (orderSlots p) by-slot)
 
-  pub held-some : member (p .held) n ≡ true → held (planOf p) n ≡ some (requestAt (p .clocks) (p .operations) (p .contexts) (slotOf n))
+  pub held-some : member (p .held) n ≡ true → held (planOf p) n ≡ some (requestAt (p .clocks) (p .askings) (p .contexts) (slotOf n))
   held-some e =
       let once = slot-count ∙ one-true e in
       held-at ∙ ap (Option·map at)

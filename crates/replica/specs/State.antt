@@ -8,8 +8,8 @@ use Rattle.numbers.specs.declared.Clock.{Clock}
 use Rattle.sets.specs.declared.Context.{Context}
 use Rattle.numbers.specs.Numbers.{clockReading}
 use Rattle.sets.specs.Sets.{emptySet}
-use Rattle.registers.specs.Replay.{zeroBoard}
-use Rattle.slots.specs.Slots.{mostSlots}
+use Rattle.effects.specs.Replay.{zeroBoard}
+use Rattle.ordering.specs.Slots.{mostSlots}
 use Rattle.store.specs.Requests.{mostWords}
 use Rattle.creek.specs.declared.Answer.{Answer}
 
@@ -31,7 +31,7 @@ pub record State : Type 0 where
   pub known : Context
   pub awaiting : Context
   pub clocks : List ℕ
-  pub operations : List ℕ
+  pub askings : List ℕ
   pub contexts : List ℕ
   pub order : List ℕ
   pub stack : List ℕ
@@ -59,7 +59,7 @@ firstMemory panels own = record {
   known = emptySet;
   awaiting = emptySet;
   clocks = replicate mostSlots 0;
-  operations = replicate mostSlots 0;
+  askings = replicate mostSlots 0;
   contexts = replicate mostWords 0;
   order = replicate mostSlots 0;
   stack = replicate mostSlots 0;

@@ -1,6 +1,6 @@
 // A panel's memory, and the calls that make and show it, over lent parts of it.
 //
-// A request is kept at its number's slot in `clocks`, `operations` and `contexts`. The standing order is the first `ordered` of `order`, of
+// A request is kept at its number's slot in `clocks`, `askings` and `contexts`. The standing order is the first `ordered` of `order`, of
 // which the first `committed` are committed; `held` has the numbers of the order, `settled` those of the committed ones. The requests on
 // the board are the first `stacked` of `stack`: the first `executed` of them are the executed list, the rest, last first, the rollback
 // list. By place on the board `saved` has what to roll back from and `responses` the response. So adjusting only lowers `executed`, an undo
@@ -77,7 +77,7 @@ pub fn fresh(
     known: &mut [u64; 8],
     awaiting: &mut [u64; 8],
     clocks: &mut [u32; 512],
-    operations: &mut [u64; 512],
+    askings: &mut [u64; 512],
     contexts: &mut [u64; 4096],
     order: &mut [u16; 512],
     stack: &mut [u16; 512],
@@ -91,7 +91,7 @@ pub fn fresh(
     ensures { λ r. ⌜ Fresh panels (own .0)
         (openedBy (now (committed .exit)) (now (ordered .exit)) (now (executed .exit)) (now (stacked .exit)) (now (commits .exit))
         (now (clock .exit)) (now (shop .exit)) (now (events .exit)) (now (held .exit)) (now (known .exit)) (now (awaiting .exit))
-        (now (clocks .exit)) (now (operations .exit)) (now (contexts .exit)) (now (order .exit)) (now (stack .exit))
+        (now (clocks .exit)) (now (askings .exit)) (now (contexts .exit)) (now (order .exit)) (now (stack .exit))
         (now (registers .exit)) (now (saved .exit)) (now (responses .exit)) (now (settled .exit)) r) ⌝ }
 {
     *committed = 0;
@@ -105,7 +105,7 @@ pub fn fresh(
     *known = [0u64; 8];
     *awaiting = [0u64; 8];
     *clocks = [0u32; 512];
-    *operations = [0u64; 512];
+    *askings = [0u64; 512];
     *contexts = [0u64; 4096];
     *order = [0u16; 512];
     *stack = [0u16; 512];

@@ -73,13 +73,13 @@ pub fn owed(ordered: usize, executed: usize, stacked: usize) -> usize
 pub fn at_place<'a>(
     ordered: usize,
     clocks: &'a [u32; 512],
-    operations: &'a [u64; 512],
+    askings: &'a [u64; 512],
     contexts: &'a [u64; 4096],
     order: &'a [u16; 512],
     place: usize,
 ) -> PlacedRequest
-    requires { ⌜ PlaceAsks ordered (now clocks) (now operations) (now contexts) (now order) ⌝ }
-    ensures { λ r. ⌜ PlaceKept ordered (now (clocks .entry)) (now (operations .entry)) (now (contexts .entry)) (now (order .entry)) place r ⌝ }
+    requires { ⌜ PlaceAsks ordered (now clocks) (now askings) (now contexts) (now order) ⌝ }
+    ensures { λ r. ⌜ PlaceKept ordered (now (clocks .entry)) (now (askings .entry)) (now (contexts .entry)) (now (order .entry)) place r ⌝ }
 {
     if (place == 0) | (ordered < place) {
         let request = request::none();
@@ -89,7 +89,7 @@ pub fn at_place<'a>(
         };
     }
     let slot = order[place - 1];
-    let request = stored::request_at(clocks, operations, contexts, slot);
+    let request = stored::request_at(clocks, askings, contexts, slot);
     PlacedRequest {
         refusal: refusal::ACCEPTED,
         request,

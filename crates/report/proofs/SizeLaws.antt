@@ -7,8 +7,8 @@ use mathlib.Core.List.{List, [], _∷_}
 use lib.ListN.{length, length-append}
 use lib.Dec.{eqb}
 use Rattle.request.specs.Operations.{lastRegister}
-use Rattle.registers.specs.Effect.{range}
-use Rattle.registers.proofs.FrameLaws.{InRange}
+use Rattle.effects.specs.Effect.{range}
+use Rattle.effects.proofs.FrameLaws.{InRange}
 use Rattle.text.specs.Text.{ascii, significant, decimal, restOfLine, line}
 use Rattle.text.proofs.DecimalLaws.{decimal-short, of-byte, of-short, of-wide}
 use Rattle.report.specs.Lines.{boardLine, refusedLine, messageLine, unreadLine, totalsLine}

@@ -1,12 +1,11 @@
 // A request and its parts, no field of which is wider than its field in a bus message.
 //
 // Here are the types and what concerns a whole request: zeros, equality, and the test behind refusal 21. What a request asks for is in
-// `asks`, operations in `operations`, clock order in `order`, the refusal numbers in `refusal`; numbers and sets of numbers are crates of
+// `asks`, operations in `operations`, the refusal numbers in `refusal`; clock order is `Order` of `specs/`; numbers and sets of numbers are crates of
 // their own.
 // Each contract gives the result by the definition of the same name in `specs/`; their laws are in `proofs/`.
 pub mod asks;
 pub mod operations;
-pub mod order;
 pub mod refusal;
 
 use numbers::Clock;

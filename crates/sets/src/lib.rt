@@ -1,5 +1,5 @@
 // Sets of numbers as eight words, each function working by words. No set holds a number with a panel over 7 or an event outside 1 to 64:
-// asked for one, `member` says no. A number is put into a set and taken out of it in `joining`.
+// asked for one, `member` says no.
 //
 // Each contract gives the result by the definition of the same name in `specs/`; their laws are in `proofs/`.
 use numbers::EventNo;

@@ -12,14 +12,14 @@ use Rattle.request.specs.Request.{sameRequest}
 use Rattle.numbers.proofs.NumberLaws.{sameNumber-self}
 use Rattle.request.proofs.EqualityLaws.{sameRequest-sound}
 use Rattle.request.specs.Asked.{operationOf}
-use Rattle.registers.specs.Effect.{response}
-use Rattle.registers.specs.Replay.{replay}
+use Rattle.effects.specs.Effect.{response}
+use Rattle.effects.specs.Replay.{replay}
 use Rattle.lists.specs.Lists.{count, somePasses, keep, commonStart}
 use Rattle.lists.specs.Places.{All}
 use Rattle.lists.proofs.AllLaws.{all-take}
 use Rattle.lists.proofs.ListLaws.{one-true, count-append, commonStart-most, commonStart-both}
 use Rattle.lists.proofs.MapLaws.{map-take, commonStart-map}
-use Rattle.slots.specs.Slots.{IsSlot}
+use Rattle.ordering.specs.Slots.{IsSlot}
 use Rattle.creek.specs.Plan.{order as orderPlanned, hasNumber, named, committing}
 use Rattle.creek.specs.Execution.{operations, adjusted}
 use Rattle.creek.specs.internal.Stack.{stacked}
@@ -73,7 +73,7 @@ module _ {p : State} {s : ℕ} {order : List ℕ} {committed executed : ℕ} (h 
       let inside = take-take (p .executed) (p .stacked) (p .stack) (h .invariant .counts .executed) in
       let slots : All IsSlot (take (p .executed) (p .stack)) =
       rw inside at (all-take IsSlot (p .executed) (boardSlots p) (h .invariant .board-slots)) in
-      let same = commonStart-map (keptAt p) IsSlot eqb sameRequest (same-request (p .clocks) (p .operations) (p .contexts))
+      let same = commonStart-map (keptAt p) IsSlot eqb sameRequest (same-request (p .clocks) (p .askings) (p .contexts))
       (take (p .executed) (p .stack)) (take (p .ordered) order) slots (order-slots-then h) in
       ap (λ (l : List Request). commonStart sameRequest l (orderThen p order))
       (sym (map-take (keptAt p) (p .executed) (boardSlots p)) ∙ ap (requestsAt p) inside)

@@ -15,7 +15,7 @@ use Rattle.numbers.proofs.NumberLaws.{good-number, sameNumber-sound, number-of-
 use Rattle.lists.specs.Lists.{find}
 use Rattle.lists.proofs.BoolLaws.{true-not-false, same-test}
 use Rattle.lists.proofs.ListLaws.{count-weaker, passes-count, none-passes-count, found-passes, found-not, find-skip}
-use Rattle.slots.specs.Slots.{IsSlot}
+use Rattle.ordering.specs.Slots.{IsSlot}
 use Rattle.creek.specs.Plan.{Plan, hasNumber, held, isCommitted}
 use Rattle.creek.specs.internal.Sound.{unknown, knownAgainstStrength, SoundPlan}
 use Rattle.creek.proofs.HeldLaws.{widened}
@@ -27,13 +27,13 @@ use Rattle.replica.proofs.RequestLaws.{held-some}
 -- ---- what p keeps at slot s
 
 abbrev pub keptAt : State → ℕ → Request
-keptAt p s = requestAt (p .clocks) (p .operations) (p .contexts) s
+keptAt p s = requestAt (p .clocks) (p .askings) (p .contexts) s
 
 abbrev pub numberAt : State → ℕ → Number
 numberAt p s = keptAt p s .number
 
 abbrev pub strongAt : State → ℕ → Bool
-strongAt p s = askedIn (getD (p .operations) s 0) .strong
+strongAt p s = askedIn (getD (p .askings) s 0) .strong
 
 abbrev pub contextAt : State → ℕ → Context
 contextAt p s = contextIn (p .contexts) s

@@ -18,10 +18,10 @@ use Rattle.sets.specs.Sets.{setOf, member, join}
 use Rattle.lists.specs.Lists.{find, commonStart}
 use Rattle.lists.proofs.BoolLaws.{true-not-false, both-true}
 use Rattle.lists.proofs.ListLaws.{count-most}
-use Rattle.slots.specs.Slots.{PartsAsk}
+use Rattle.ordering.specs.Slots.{PartsAsk}
 use Rattle.slots.specs.Settlement.{settled, SettlementAsks, Settled, MovesAsk}
 use Rattle.slots.specs.Marks.{Marks, Marked}
-use Rattle.slots.proofs.SlotLaws.{common-from, common-until}
+use Rattle.ordering.proofs.SlotLaws.{common-from, common-until}
 use Rattle.slots.proofs.SettlementLaws.{unmoved-behind}
 use Rattle.creek.specs.declared.Answer.{Answer}
 use Rattle.creek.specs.Plan.{hasNumber, lastEvent, lastClock, committing, committingFound}

@@ -16,10 +16,10 @@ use Rattle.sets.specs.Sets.{setOf, member, join, subset}
 use Rattle.sets.proofs.SetLaws.{subset-member, member-join, join-length}
 use Rattle.request.specs.declared.Request.{Request}
 use Rattle.request.specs.Order.{before}
-use Rattle.slots.specs.Slots.{IsSlot, InOrder, inWords, comesBefore}
+use Rattle.ordering.specs.Slots.{IsSlot, InOrder, inWords, comesBefore}
 use Rattle.slots.specs.Settlement.{SettlementAsks, Settled, MovesAsk}
 use Rattle.slots.specs.Marks.{Marks, United, Marked}
-use Rattle.slots.proofs.SlotLaws.{same-slot, in-words-member, comes-before-order}
+use Rattle.ordering.proofs.SlotLaws.{same-slot, in-words-member, comes-before-order}
 use Rattle.slots.proofs.MarkLaws.{moves-asked, marks-after}
 use Rattle.store.specs.Requests.{requestAt}
 use Rattle.creek.specs.Plan.{order}
@@ -30,7 +30,7 @@ use Rattle.replica.proofs.RequestLaws.{count-held}
 
 module _ (p : State) (inv : Inv p) where
   abbrev at : ℕ → Request
-  at = requestAt (p .clocks) (p .operations) (p .contexts)
+  at = requestAt (p .clocks) (p .askings) (p .contexts)
 
   -- clock order of two requests, by their slots
   by-slots : (s t : ℕ) → IsSlot s → IsSlot t → before (at s) (at t) ≡ comesBefore (p .clocks) (getD (p .clocks) s 0) s t

@@ -15,9 +15,10 @@ use Rattle.lists.specs.Places.{All}
 use Rattle.lists.proofs.AllLaws.{all-weaken, all-take, all-drop, all-append}
 use Rattle.lists.proofs.ListLaws.{count-append, found-counts}
 use Rattle.lists.proofs.MapLaws.{map-take, map-drop, keep-map, keep-agree, count-map, count-agree}
-use Rattle.slots.specs.Slots.{IsSlot, inWords}
+use Rattle.ordering.specs.Slots.{IsSlot, inWords}
 use Rattle.slots.specs.Settlement.{stays, settled, SettlementAsks, Settled}
-use Rattle.slots.proofs.SlotLaws.{part-of, same-slot, in-words-member, stays-by-number}
+use Rattle.ordering.proofs.SlotLaws.{part-of, same-slot, in-words-member}
+use Rattle.slots.proofs.SlotLaws.{stays-by-number}
 use Rattle.slots.proofs.SettlementLaws.{all-settled, count-settled, committed-inside, committed-settled, tentative-settled}
 use Rattle.creek.specs.Plan.{order as orderPlanned, hasNumber, named, stays as staysTentative, committing}
 use Rattle.creek.proofs.CommittedLaws.{not-itself}

@@ -132,7 +132,7 @@ module _ {p : State} {n : Number} {s : ℕ} (inv : Inv p) (h : HeldAt p n s) whe
 -- ---- the early refusals
 
 module _ {p : State} {n : Number} (inv : Inv p) where
-  pub kept-early : {word : ℕ} {a : Answer} → word ≡ earlyRefusal (p .panels) (p .held) (p .known) (p .operations) n
+  pub kept-early : {word : ℕ} {a : Answer} → word ≡ earlyRefusal (p .panels) (p .held) (p .known) (p .askings) n
       → (word ≡ refused.accepted → ⊥) → a ≡ refusedWith word noNumber → Kept p (commit n) (record { answer = a; state = p })
   unfolding earlyRefusal
   kept-early {word} {a} e out answered =
@@ -158,7 +158,7 @@ module _ {p : State} {n : Number} (inv : Inv p) where
       go false true true true b h s k w = kept ((rw (s, k) at (held-word b h)) ∙ sym w) (ap (λ (k : ℕ). eqb k refused.waits) w)
       go false true true false b h s k w = absurd (out w)
 
-  pub early-passed : {word s : ℕ} → word ≡ earlyRefusal (p .panels) (p .held) (p .known) (p .operations) n → word ≡ refused.accepted
+  pub early-passed : {word s : ℕ} → word ≡ earlyRefusal (p .panels) (p .held) (p .known) (p .askings) n → word ≡ refused.accepted
       → s ≡ slotOf n → Judged p n s
   unfolding earlyRefusal
   early-passed e z at =

@@ -24,10 +24,10 @@ use Rattle.replica.specs.internal.Parts.{Asks, KeptBy}
 
 -- what needs no context, with those numbers held and known and what those held ask for: bad number, not here, weak, settled already
 unfoldable pub earlyRefusal : ℕ → Context → Context → List ℕ → Number → ℕ
-earlyRefusal panels held known operations n =
+earlyRefusal panels held known askings n =
     met (badNumber panels n) refused.badNumber
     (met (not (member held n)) refused.notHere
-    (met (not (askedIn (getD operations (slotOf n) 0) .strong)) refused.weak
+    (met (not (askedIn (getD askings (slotOf n) 0) .strong)) refused.weak
     (met (member known n) refused.settledAlready
     refused.accepted)))
 
@@ -59,7 +59,7 @@ pub record Lent : Type 0 where
   pub known : List ℕ
   pub awaiting : List ℕ
   pub clocks : List ℕ
-  pub operations : List ℕ
+  pub askings : List ℕ
   pub contexts : List ℕ
   pub order : List ℕ
   pub stack : List ℕ
@@ -68,8 +68,8 @@ pub record Lent : Type 0 where
 
 -- what references to them refer to: where they are passed, at a function's entry, and at its exit
 abbrev pub lentNow : (committed executed commits : RefT ℕ)
-    (held known awaiting clocks operations contexts order stack responses settled : RefT (List ℕ)) → Lent
-lentNow committed executed commits held known awaiting clocks operations contexts order stack responses settled = record {
+    (held known awaiting clocks askings contexts order stack responses settled : RefT (List ℕ)) → Lent
+lentNow committed executed commits held known awaiting clocks askings contexts order stack responses settled = record {
   committed = committed .now;
   executed = executed .now;
   commits = commits .now;
@@ -77,7 +77,7 @@ lentNow committed executed commits held known awaiting clocks operations context
   known = known .now;
   awaiting = awaiting .now;
   clocks = clocks .now;
-  operations = operations .now;
+  askings = askings .now;
   contexts = contexts .now;
   order = order .now;
   stack = stack .now;
@@ -86,16 +86,16 @@ lentNow committed executed commits held known awaiting clocks operations context
 }
 
 abbrev pub lentEntry : (committed executed commits : Both (RefT ℕ) (RefT ℕ))
-    (held known awaiting clocks operations contexts order stack responses settled : Both (RefT (List ℕ)) (RefT (List ℕ))) → Lent
-lentEntry committed executed commits held known awaiting clocks operations contexts order stack responses settled =
+    (held known awaiting clocks askings contexts order stack responses settled : Both (RefT (List ℕ)) (RefT (List ℕ))) → Lent
+lentEntry committed executed commits held known awaiting clocks askings contexts order stack responses settled =
     lentNow (committed .entry) (executed .entry) (commits .entry) (held .entry) (known .entry) (awaiting .entry) (clocks .entry)
-    (operations .entry) (contexts .entry) (order .entry) (stack .entry) (responses .entry) (settled .entry)
+    (askings .entry) (contexts .entry) (order .entry) (stack .entry) (responses .entry) (settled .entry)
 
 abbrev pub lentExit : (committed executed commits : Both (RefT ℕ) (RefT ℕ))
-    (held known awaiting clocks operations contexts order stack responses settled : Both (RefT (List ℕ)) (RefT (List ℕ))) → Lent
-lentExit committed executed commits held known awaiting clocks operations contexts order stack responses settled =
+    (held known awaiting clocks askings contexts order stack responses settled : Both (RefT (List ℕ)) (RefT (List ℕ))) → Lent
+lentExit committed executed commits held known awaiting clocks askings contexts order stack responses settled =
     lentNow (committed .exit) (executed .exit) (commits .exit) (held .exit) (known .exit) (awaiting .exit) (clocks .exit)
-    (operations .exit) (contexts .exit) (order .exit) (stack .exit) (responses .exit) (settled .exit)
+    (askings .exit) (contexts .exit) (order .exit) (stack .exit) (responses .exit) (settled .exit)
 
 -- a panel of a shop of so many panels, with so many in the order, and those parts
 abbrev pub commitParts : ℕ → ℕ → Lent → State → State
@@ -114,7 +114,7 @@ commitParts panels ordered l p = record {
   known = setOf (l .known);
   awaiting = setOf (l .awaiting);
   clocks = l .clocks;
-  operations = l .operations;
+  askings = l .askings;
   contexts = l .contexts;
   order = l .order;
   stack = l .stack;

@@ -30,7 +30,7 @@ pub fn commit<'a>(
     known: &mut [u64; 8],
     awaiting: &mut [u64; 8],
     clocks: &'a [u32; 512],
-    operations: &'a [u64; 512],
+    askings: &'a [u64; 512],
     contexts: &'a [u64; 4096],
     order: &mut [u16; 512],
     stack: &'a [u16; 512],
@@ -39,13 +39,13 @@ pub fn commit<'a>(
     n: Number,
 ) -> Reply
     requires { ⌜ CommitAsks panels ordered
-        (lentNow committed executed commits held known awaiting clocks operations contexts order stack responses settled) ⌝ }
+        (lentNow committed executed commits held known awaiting clocks askings contexts order stack responses settled) ⌝ }
     ensures { λ r. ⌜ CommitKept panels ordered
-        (lentEntry committed executed commits held known awaiting clocks operations contexts order stack responses settled) n
-        (lentExit committed executed commits held known awaiting clocks operations contexts order stack responses settled)
+        (lentEntry committed executed commits held known awaiting clocks askings contexts order stack responses settled) n
+        (lentExit committed executed commits held known awaiting clocks askings contexts order stack responses settled)
         (replyAnswer r) ⌝ }
 {
-    let refusal = early_refusal(panels, held, known, operations, n);
+    let refusal = early_refusal(panels, held, known, askings, n);
     if refusal != refusal::ACCEPTED {
         return replica::refusing(refusal);
     }
@@ -59,7 +59,7 @@ pub fn commit<'a>(
         known,
         awaiting,
         clocks,
-        operations,
+        askings,
         contexts,
         order,
         stack,
@@ -80,7 +80,7 @@ pub fn commit_answer<'a>(
     known: &mut [u64; 8],
     awaiting: &mut [u64; 8],
     clocks: &'a [u32; 512],
-    operations: &'a [u64; 512],
+    askings: &'a [u64; 512],
     contexts: &'a [u64; 4096],
     order: &mut [u16; 512],
     stack: &'a [u16; 512],
@@ -89,12 +89,12 @@ pub fn commit_answer<'a>(
     n: Number,
 ) -> Answer
     requires { ⌜ CommitAsks panels ordered
-        (lentNow committed executed commits held known awaiting clocks operations contexts order stack responses settled) ⌝ }
+        (lentNow committed executed commits held known awaiting clocks askings contexts order stack responses settled) ⌝ }
     ensures { λ a. ⌜ CommitKept panels ordered
-        (lentEntry committed executed commits held known awaiting clocks operations contexts order stack responses settled) n
-        (lentExit committed executed commits held known awaiting clocks operations contexts order stack responses settled) a ⌝ }
+        (lentEntry committed executed commits held known awaiting clocks askings contexts order stack responses settled) n
+        (lentExit committed executed commits held known awaiting clocks askings contexts order stack responses settled) a ⌝ }
 {
-    let refusal = early_refusal(panels, held, known, operations, n);
+    let refusal = early_refusal(panels, held, known, askings, n);
     if refusal != refusal::ACCEPTED {
         return replica::refused(refusal);
     }
@@ -108,7 +108,7 @@ pub fn commit_answer<'a>(
         known,
         awaiting,
         clocks,
-        operations,
+        askings,
         contexts,
         order,
         stack,
@@ -124,11 +124,11 @@ fn early_refusal<'a>(
     panels: u8,
     held: &'a [u64; 8],
     known: &'a [u64; 8],
-    operations: &'a [u64; 512],
+    askings: &'a [u64; 512],
     n: Number,
 ) -> u8
     requires { ⌜ panels ≤ mostPanels ⌝ }
-    ensures { λ r. ⌜ r ≡ earlyRefusal panels (setOf (now (held .entry))) (setOf (now (known .entry))) (now (operations .entry)) n ⌝ }
+    ensures { λ r. ⌜ r ≡ earlyRefusal panels (setOf (now (held .entry))) (setOf (now (known .entry))) (now (askings .entry)) n ⌝ }
 {
     if numbers::bad(panels, n) {
         return refusal::BAD_NUMBER;
@@ -137,7 +137,7 @@ fn early_refusal<'a>(
         return refusal::NOT_HERE;
     }
     let slot = numbers::slot_of(n);
-    let asked = store::asked_at(operations, slot as usize);
+    let asked = store::asked_at(askings, slot as usize);
     if !asked.strong {
         return refusal::WEAK;
     }
@@ -148,7 +148,7 @@ fn early_refusal<'a>(
     refusal::ACCEPTED
 }
 
-// The request of number n, which no test without its context refuses, is settled or waits; `panels`, `held` and `operations` stand for the
+// The request of number n, which no test without its context refuses, is settled or waits; `panels`, `held` and `askings` stand for the
 // contract alone.
 fn settle<'a>(
     panels: u8,
@@ -160,7 +160,7 @@ fn settle<'a>(
     known: &mut [u64; 8],
     awaiting: &mut [u64; 8],
     clocks: &'a [u32; 512],
-    operations: &'a [u64; 512],
+    askings: &'a [u64; 512],
     contexts: &'a [u64; 4096],
     order: &mut [u16; 512],
     stack: &'a [u16; 512],
@@ -169,11 +169,11 @@ fn settle<'a>(
     n: Number,
 ) -> Reply
     requires { ⌜ CommitAsks panels ordered
-        (lentNow committed executed commits held known awaiting clocks operations contexts order stack responses settled) ⌝ }
-    requires { ⌜ earlyRefusal panels (setOf (now held)) (setOf (now known)) (now operations) n ≡ accepted ⌝ }
+        (lentNow committed executed commits held known awaiting clocks askings contexts order stack responses settled) ⌝ }
+    requires { ⌜ earlyRefusal panels (setOf (now held)) (setOf (now known)) (now askings) n ≡ accepted ⌝ }
     ensures { λ r. ⌜ CommitKept panels ordered
-        (lentEntry committed executed commits held known awaiting clocks operations contexts order stack responses settled) n
-        (lentExit committed executed commits held known awaiting clocks operations contexts order stack responses settled)
+        (lentEntry committed executed commits held known awaiting clocks askings contexts order stack responses settled) n
+        (lentExit committed executed commits held known awaiting clocks askings contexts order stack responses settled)
         (replyAnswer r) ⌝ }
 {
     let slot = numbers::slot_of(n);
@@ -192,7 +192,7 @@ fn settle<'a>(
     // What is executed agrees with the order up to where the settlement changes it, and behind the last slot that it moves.
     let same = replica::lower(before, from);
     let last = replica::lower(before, moved.end);
-    let start = slots::common_start(stack, last, order, ordered, same);
+    let start = ordering::common_start(stack, last, order, ordered, same);
     let stays = agreed(before, last, start);
     // The request is the last committed: it stays executed where the mark lies behind it, and its response was kept at its place.
     let response = responses[count - 1];

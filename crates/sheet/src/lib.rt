@@ -76,7 +76,7 @@ fn put_printout(out: &mut [u8], input: &[u8]) -> usize
     let mut known = [0u64; 8];
     let mut awaiting = [0u64; 8];
     let mut clocks = [0u32; 512];
-    let mut operations = [0u64; 512];
+    let mut askings = [0u64; 512];
     let mut contexts = [0u64; 4096];
     let mut order = [0u16; 512];
     let mut stack = [0u16; 512];
@@ -97,7 +97,7 @@ fn put_printout(out: &mut [u8], input: &[u8]) -> usize
         &mut known,
         &mut awaiting,
         &mut clocks,
-        &mut operations,
+        &mut askings,
         &mut contexts,
         &mut order,
         &mut stack,
@@ -133,7 +133,7 @@ fn put_printout(out: &mut [u8], input: &[u8]) -> usize
         &mut known,
         &mut awaiting,
         &mut clocks,
-        &mut operations,
+        &mut askings,
         &mut contexts,
         &mut order,
         &mut stack,

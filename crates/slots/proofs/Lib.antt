@@ -1,4 +1,4 @@
--- The laws of a settlement, for this crate's proofs and for the replica; and those of `ordering`, passed on.
+-- The laws of a settlement, for this crate's proofs and for the replica.
 pub mod SlotLaws
 pub mod SeparationLaws
 pub mod SettlementLaws

@@ -1,4 +1,4 @@
--- That a slot stays tentative by its number; and the laws of slots of `ordering`, passed on.
+-- That a slot stays tentative by its number.
 use Prim.Native.Nat.{ℕ}
 use mathlib.Core.Path.{_≡_}
 use mathlib.Core.Bool.{not, _||_}
@@ -8,8 +8,8 @@ use Rattle.numbers.specs.Numbers.{sameNumber}
 use Rattle.numbers.specs.internal.Slots.{numberOf}
 use Rattle.ordering.specs.Slots.{IsSlot}
 use Rattle.slots.specs.Settlement.{stays}
-pub use Rattle.ordering.proofs.SlotLaws.{part-of, part-slot, same-slot, in-words-member, common-from, common-until, comes-before-order}
-pub use Rattle.ordering.proofs.InsertionLaws.{later-from-place}
+use Rattle.ordering.proofs.SlotLaws.{part-of, part-slot, same-slot, in-words-member, common-from, common-until, comes-before-order}
+use Rattle.ordering.proofs.InsertionLaws.{later-from-place}
 
 -- a slot stays where its number is neither in the context nor the settled one
 pub stays-by-number : (context : Context) (s t : ℕ) → IsSlot s → IsSlot t

@@ -1,12 +1,8 @@
 // Lists of slots kept in arrays of 512, each list by the array and a count: the loops of the replica.
 //
-// `settlement` has the order after a settlement, `front` a slot that goes to the front, `members` sets of numbers in words. The other
-// functions are those of `ordering`, which says what a function may require, and are passed on. The laws for a caller are in `proofs/`.
+// `settlement` has the order after a settlement, `front` a slot that goes to the front, `members` sets of numbers in words. The laws
+// for a caller are in `proofs/`.
 pub use members::join_all;
-pub use ordering::common_start;
-pub use ordering::insert_at;
-pub use ordering::place;
-pub use ordering::take_out;
 pub use settlement::settle_moving;
 
 pub mod front;

@@ -21,9 +21,9 @@ use Rattle.sets.specs.Sets.{setOf, member}
 use Rattle.request.specs.Refusal as refused
 use Rattle.request.specs.Asked.{operationOf}
 use Rattle.numbers.proofs.NumberLaws.{sameNumber-self}
-use Rattle.registers.specs.Effect.{response, Executed}
+use Rattle.effects.specs.Effect.{response, Executed}
 use Rattle.registers.specs.Rollback.{savedOf, savedIn}
-use Rattle.slots.specs.Slots.{IsSlot}
+use Rattle.ordering.specs.Slots.{IsSlot}
 use Rattle.creek.specs.declared.Answer.{Answer}
 use Rattle.creek.specs.Plan.{order, hasNumber, isCommitted}
 use Rattle.creek.specs.Execution.{operations, registers, executedNext, executeRefusal}
@@ -47,7 +47,7 @@ use Rattle.lists.proofs.StartLaws.{passes-below}
 
 -- what the request that is executed next asks for, its operation and whether it is strong
 abbrev pub nextAsked : State → Asked
-nextAsked p = askedIn (getD (p .operations) (nextSlot p) 0)
+nextAsked p = askedIn (getD (p .askings) (nextSlot p) 0)
 
 abbrev pub nextOperation : State → Operation
 nextOperation p = operationOf (nextAsked p)

@@ -14,9 +14,9 @@ use Rattle.request.specs.declared.Operation.{Operation}
 use Rattle.request.specs.Refusal as refused
 use Rattle.request.specs.Asked.{operationOf}
 use Rattle.registers.specs.declared.Saved.{Saved}
-use Rattle.registers.specs.Effect.{Executed}
+use Rattle.effects.specs.Effect.{Executed}
 use Rattle.registers.specs.Rollback.{savedOf, savedIn, SavedAs}
-use Rattle.slots.specs.Slots.{mostSlots, IsSlot}
+use Rattle.ordering.specs.Slots.{mostSlots, IsSlot}
 use Rattle.store.specs.Requests.{askedIn}
 use Rattle.creek.specs.declared.Reply.{Reply}
 use Rattle.creek.specs.Book.{undo, execute, refusal}
@@ -68,7 +68,7 @@ module _ (l : UndoLent) where
   }
 
   pub undo-done : l .executed < l .stacked → {registers : List ℕ} {s : ℕ}
-      → TakenOff (l .operations) (l .stack) (l .registers) (l .saved) (l .stacked - 1) registers s → (n : Number) → n ≡ numberOf s
+      → TakenOff (l .askings) (l .stack) (l .registers) (l .saved) (l .stacked - 1) registers s → (n : Number) → n ≡ numberOf s
       → UndoKept l (undoChanged l (l .stacked - 1) registers) (reply n 0 noMark) 1
   undo-done due {registers} off n is = record {
     kept = λ p inv.
@@ -85,35 +85,35 @@ pub record NextAsks (order : List ℕ) (at : ℕ) : Type 0 where
 
 -- what the request at place `at` of the order asks for
 abbrev pub askedNext : List ℕ → List ℕ → ℕ → Asked
-askedNext operations order at = askedIn (getD operations (getD order at 0) 0)
+askedNext askings order at = askedIn (getD askings (getD order at 0) 0)
 
 -- the request at place `at` of the order, of which so many are committed, was executed and put on the board there, with that reply
-pub record Next (committed : ℕ) (awaiting operations order stack registers saved responses : List ℕ) (at : ℕ)
+pub record Next (committed : ℕ) (awaiting askings order stack registers saved responses : List ℕ) (at : ℕ)
     (awaiting′ stack′ registers′ saved′ responses′ : List ℕ) (r : Reply) : Type 0 where
   pub word : ℕ
-  pub restores : savedIn word ≡ savedOf (operationOf (askedNext operations order at)) registers
-  pub done : Executed (operationOf (askedNext operations order at)) registers registers′ (r .response)
-  pub put : PutOn committed awaiting stack saved responses at (getD order at 0) (askedNext operations order at .strong) word (r .response)
+  pub restores : savedIn word ≡ savedOf (operationOf (askedNext askings order at)) registers
+  pub done : Executed (operationOf (askedNext askings order at)) registers registers′ (r .response)
+  pub put : PutOn committed awaiting stack saved responses at (getD order at 0) (askedNext askings order at .strong) word (r .response)
       awaiting′ stack′ saved′ responses′ r
 
 -- from one equation for each value that is computed
-pub next-by : {committed at : ℕ} {awaiting operations order stack registers saved responses awaiting′ stack′ registers′ saved′ responses′ : List ℕ}
+pub next-by : {committed at : ℕ} {awaiting askings order stack registers saved responses awaiting′ stack′ registers′ saved′ responses′ : List ℕ}
     {a : Asked} {o : Operation} {s : Saved} {word v : ℕ} {r : Reply}
-    → a ≡ askedNext operations order at → o ≡ operationOf a → s ≡ savedOf o registers → SavedAs s word
+    → a ≡ askedNext askings order at → o ≡ operationOf a → s ≡ savedOf o registers → SavedAs s word
     → Executed o registers registers′ v
     → PutOn committed awaiting stack saved responses at (getD order at 0) (a .strong) word v awaiting′ stack′ saved′ responses′ r
-    → Next committed awaiting operations order stack registers saved responses at awaiting′ stack′ registers′ saved′ responses′ r
-next-by {committed} {at} {awaiting} {operations} {order} {stack} {registers} {saved} {responses} {awaiting′} {stack′} {registers′} {saved′}
+    → Next committed awaiting askings order stack registers saved responses at awaiting′ stack′ registers′ saved′ responses′ r
+next-by {committed} {at} {awaiting} {askings} {order} {stack} {registers} {saved} {responses} {awaiting′} {stack′} {registers′} {saved′}
     {responses′} {word = word} {v} {r} a-is o-is s-is kept done put =
     let operation = o-is ∙ ap operationOf a-is in
     record {
       word = word;
       restores = kept .read ∙ s-is ∙ ap (λ (o : Operation). savedOf o registers) operation;
       done =
-          subst (λ (w : ℕ). Executed (operationOf (askedNext operations order at)) registers registers′ w) (sym (put .its-response))
+          subst (λ (w : ℕ). Executed (operationOf (askedNext askings order at)) registers registers′ w) (sym (put .its-response))
           (subst (λ (o : Operation). Executed o registers registers′ v) operation done);
       put =
-          subst (λ (w : ℕ). PutOn committed awaiting stack saved responses at (getD order at 0) (askedNext operations order at .strong)
+          subst (λ (w : ℕ). PutOn committed awaiting stack saved responses at (getD order at 0) (askedNext askings order at .strong)
           word w awaiting′ stack′ saved′ responses′ r) (sym (put .its-response))
           (subst (λ (a : Asked). PutOn committed awaiting stack saved responses at (getD order at 0) (a .strong) word v
           awaiting′ stack′ saved′ responses′ r) a-is put);
@@ -152,7 +152,7 @@ module _ (l : ExecuteLent) where
     }
 
     pub execute-done : l .executed < l .ordered → {awaiting stack registers saved responses : List ℕ} {r : Reply}
-        → Next (l .committed) (l .awaiting) (l .operations) (l .order) (l .stack) (l .registers) (l .saved) (l .responses) (l .executed)
+        → Next (l .committed) (l .awaiting) (l .askings) (l .order) (l .stack) (l .registers) (l .saved) (l .responses) (l .executed)
         awaiting stack registers saved responses r
         → ExecuteKept l (executeChanged l (l .executed + 1) (l .executed + 1) awaiting stack registers saved responses) (replyAnswer r)
         (stepsDone r)

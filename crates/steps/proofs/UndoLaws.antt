@@ -11,7 +11,7 @@ use Rattle.numbers.specs.internal.Slots.{numberOf}
 use Rattle.request.specs.Refusal as refused
 use Rattle.request.specs.Asked.{operationOf}
 use Rattle.registers.specs.Rollback.{restored}
-use Rattle.slots.specs.Slots.{IsSlot}
+use Rattle.ordering.specs.Slots.{IsSlot}
 use Rattle.creek.specs.declared.Answer.{Answer}
 use Rattle.creek.specs.Execution.{undone, undoRefusal}
 use Rattle.creek.specs.internal.Stack.{stacked}
@@ -51,7 +51,7 @@ module _ (p : State) (inv : Inv p) where
         (stacked-undone (beneath p inv due) (requestOf p (topSlot p)) (p .executed) (orderOf p) (omega (arith, beneath-length p inv due)))
 
     module _ (registers : List ℕ)
-        (back : registers ≡ restored (operationOf (askedIn (getD (p .operations) (topSlot p) 0))) (savedAt (p .saved) (p .stacked - 1))
+        (back : registers ≡ restored (operationOf (askedIn (getD (p .askings) (topSlot p) 0))) (savedAt (p .saved) (p .stacked - 1))
         (p .registers)) where
       abbrev after : State
       after = undoneState p registers (undosCounted (p .counters) 1)

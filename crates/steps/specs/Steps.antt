@@ -10,7 +10,7 @@ use Rattle.sets.specs.Sets.{setOf, member}
 use Rattle.request.specs.Asked.{operationOf}
 use Rattle.request.specs.Refusal as refused
 use Rattle.registers.specs.Rollback.{savedIn, restored}
-use Rattle.slots.specs.Slots.{mostSlots, IsSlot}
+use Rattle.ordering.specs.Slots.{mostSlots, IsSlot}
 use Rattle.store.specs.Requests.{askedIn}
 use Rattle.creek.specs.declared.Answer.{Answer}
 use Rattle.creek.specs.declared.Reply.{Reply}
@@ -35,9 +35,9 @@ pub record TopAsks (stack : List ℕ) (top : ℕ) : Type 0 where
   pub slot : IsSlot (getD stack top 0)
 
 -- the request at the place `top` on the board, of that slot, was rolled back from what was saved there
-pub record TakenOff (operations stack registers saved : List ℕ) (top : ℕ) (registers′ : List ℕ) (s : ℕ) : Type 0 where
+pub record TakenOff (askings stack registers saved : List ℕ) (top : ℕ) (registers′ : List ℕ) (s : ℕ) : Type 0 where
   pub slot : s ≡ getD stack top 0
-  pub rolled-back : registers′ ≡ restored (operationOf (askedIn (getD operations (getD stack top 0) 0))) (savedIn (getD saved top 0)) registers
+  pub rolled-back : registers′ ≡ restored (operationOf (askedIn (getD askings (getD stack top 0) 0))) (savedIn (getD saved top 0)) registers
 
 -- ---- execute
 

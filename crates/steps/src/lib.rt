@@ -15,7 +15,7 @@ use request::refusal;
 ghost use mathlib.Core.Path.{_≡_};
 ghost use mathlib.Core.Bool.{true};
 ghost use Prim.Native.Nat.{_<_};
-ghost use Rattle.slots.specs.Slots.{mostSlots};
+ghost use Rattle.ordering.specs.Slots.{mostSlots};
 ghost use Rattle.creek.specs.Replies.{markOf, replyAnswer, stepsDone};
 ghost use Rattle.steps.specs.Lent.{undoNow, undoEntry, undoExit, executeNow, executeEntry, executeExit};
 ghost use Rattle.steps.specs.Steps.{UndoAsks, UndoKept, TopAsks, TakenOff, ExecuteAsks, ExecuteKept, PutOn};
@@ -30,21 +30,21 @@ pub struct Stepped {
 pub fn undo<'a>(
     executed: usize,
     stacked: &mut usize,
-    operations: &'a [u64; 512],
+    askings: &'a [u64; 512],
     stack: &'a [u16; 512],
     registers: &mut [u32; 64],
     saved: &'a [u64; 512],
 ) -> Reply
-    requires { ⌜ UndoAsks (undoNow executed stacked operations stack registers saved) ⌝ }
-    ensures { λ r. ⌜ UndoKept (undoEntry executed stacked operations stack registers saved)
-        (undoExit executed stacked operations stack registers saved) (replyAnswer r) (stepsDone r) ⌝ }
+    requires { ⌜ UndoAsks (undoNow executed stacked askings stack registers saved) ⌝ }
+    ensures { λ r. ⌜ UndoKept (undoEntry executed stacked askings stack registers saved)
+        (undoExit executed stacked askings stack registers saved) (replyAnswer r) (stepsDone r) ⌝ }
 {
     let height = *stacked;
     if executed == height {
         return replica::refusing(refusal::NOTHING_TO_UNDO);
     }
     let top = height - 1;
-    let slot = take_off(operations, stack, registers, saved, top);
+    let slot = take_off(askings, stack, registers, saved, top);
     *stacked = top;
     let number = numbers::number_of(slot);
     Reply {
@@ -59,16 +59,16 @@ pub fn undo<'a>(
 pub fn undo_step<'a>(
     executed: usize,
     stacked: &mut usize,
-    operations: &'a [u64; 512],
+    askings: &'a [u64; 512],
     stack: &'a [u16; 512],
     registers: &mut [u32; 64],
     saved: &'a [u64; 512],
 ) -> Stepped
-    requires { ⌜ UndoAsks (undoNow executed stacked operations stack registers saved) ⌝ }
-    ensures { λ r. ⌜ UndoKept (undoEntry executed stacked operations stack registers saved)
-        (undoExit executed stacked operations stack registers saved) (r .answer) (r .steps) ⌝ }
+    requires { ⌜ UndoAsks (undoNow executed stacked askings stack registers saved) ⌝ }
+    ensures { λ r. ⌜ UndoKept (undoEntry executed stacked askings stack registers saved)
+        (undoExit executed stacked askings stack registers saved) (r .answer) (r .steps) ⌝ }
 {
-    let undone = undo(executed, stacked, operations, stack, registers, saved);
+    let undone = undo(executed, stacked, askings, stack, registers, saved);
     let answer = replica::answer_of(undone);
     let undos = replica::steps_done(undone);
     Stepped {
@@ -79,19 +79,19 @@ pub fn undo_step<'a>(
 
 // Rolls back the request at the place `top` on the board, from what was saved there; its slot.
 pub fn take_off<'a>(
-    operations: &'a [u64; 512],
+    askings: &'a [u64; 512],
     stack: &'a [u16; 512],
     registers: &mut [u32; 64],
     saved: &'a [u64; 512],
     top: usize,
 ) -> u16
     requires { ⌜ TopAsks (now stack) top ⌝ }
-    ensures { λ slot. ⌜ TakenOff (now (operations .entry)) (now (stack .entry)) (now (registers .entry)) (now (saved .entry)) top
+    ensures { λ slot. ⌜ TakenOff (now (askings .entry)) (now (stack .entry)) (now (registers .entry)) (now (saved .entry)) top
         (now (registers .exit)) slot ⌝ }
 {
     let slot = stack[top];
     let word = saved[top];
-    let asked = store::asked_at(operations, slot as usize);
+    let asked = store::asked_at(askings, slot as usize);
     let operation = asks::operation(asked);
     registers::rollback(registers, operation, registers::saved_in(word));
     slot
@@ -104,16 +104,16 @@ pub fn execute<'a>(
     executed: &mut usize,
     stacked: &mut usize,
     awaiting: &mut [u64; 8],
-    operations: &'a [u64; 512],
+    askings: &'a [u64; 512],
     order: &'a [u16; 512],
     stack: &mut [u16; 512],
     registers: &mut [u32; 64],
     saved: &mut [u64; 512],
     responses: &mut [u32; 512],
 ) -> Reply
-    requires { ⌜ ExecuteAsks (executeNow committed ordered executed stacked awaiting operations order stack registers saved responses) ⌝ }
-    ensures { λ r. ⌜ ExecuteKept (executeEntry committed ordered executed stacked awaiting operations order stack registers saved responses)
-        (executeExit committed ordered executed stacked awaiting operations order stack registers saved responses) (replyAnswer r)
+    requires { ⌜ ExecuteAsks (executeNow committed ordered executed stacked awaiting askings order stack registers saved responses) ⌝ }
+    ensures { λ r. ⌜ ExecuteKept (executeEntry committed ordered executed stacked awaiting askings order stack registers saved responses)
+        (executeExit committed ordered executed stacked awaiting askings order stack registers saved responses) (replyAnswer r)
         (stepsDone r) ⌝ }
 {
     let at = *executed;
@@ -124,11 +124,11 @@ pub fn execute<'a>(
         return replica::refusing(refusal::NOTHING_TO_DO);
     }
     let slot = order[at];
-    let asked = store::asked_at(operations, slot as usize);
+    let asked = store::asked_at(askings, slot as usize);
     let operation = asks::operation(asked);
     let before = registers::save(registers, operation);
     let word = registers::saved_word(before);
-    let response = registers::execute(registers, operation);
+    let response = executing::execute(registers, operation);
     let more = at + 1;
     *executed = more;
     *stacked = more;
@@ -153,16 +153,16 @@ pub fn execute_step<'a>(
     executed: &mut usize,
     stacked: &mut usize,
     awaiting: &mut [u64; 8],
-    operations: &'a [u64; 512],
+    askings: &'a [u64; 512],
     order: &'a [u16; 512],
     stack: &mut [u16; 512],
     registers: &mut [u32; 64],
     saved: &mut [u64; 512],
     responses: &mut [u32; 512],
 ) -> Stepped
-    requires { ⌜ ExecuteAsks (executeNow committed ordered executed stacked awaiting operations order stack registers saved responses) ⌝ }
-    ensures { λ r. ⌜ ExecuteKept (executeEntry committed ordered executed stacked awaiting operations order stack registers saved responses)
-        (executeExit committed ordered executed stacked awaiting operations order stack registers saved responses) (r .answer)
+    requires { ⌜ ExecuteAsks (executeNow committed ordered executed stacked awaiting askings order stack registers saved responses) ⌝ }
+    ensures { λ r. ⌜ ExecuteKept (executeEntry committed ordered executed stacked awaiting askings order stack registers saved responses)
+        (executeExit committed ordered executed stacked awaiting askings order stack registers saved responses) (r .answer)
         (r .steps) ⌝ }
 {
     let done = execute(
@@ -171,7 +171,7 @@ pub fn execute_step<'a>(
         executed,
         stacked,
         awaiting,
-        operations,
+        askings,
         order,
         stack,
         registers,

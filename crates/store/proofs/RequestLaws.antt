@@ -10,7 +10,7 @@ use Rattle.request.specs.declared.Request.{Request}
 use Rattle.numbers.specs.Numbers.{mostPanels}
 use Rattle.numbers.specs.internal.Slots.{numberOf}
 use Rattle.numbers.proofs.LexicographicLaws.{compared}
-use Rattle.slots.specs.Slots.{IsSlot}
+use Rattle.ordering.specs.Slots.{IsSlot}
 use Rattle.store.specs.Requests.{WordAs, askedIn, contextAt, requestAt, Long, Stored}
 use Rattle.store.proofs.SliceLaws.{slice-stored, slice-before, slice-behind}
 
@@ -48,10 +48,10 @@ module _ (ws words : List ℕ) (s : ℕ) (count : length words ≡ mostPanels) w
 module _ {cs os ws cs′ os′ ws′ : List ℕ} {slot w : ℕ} (x : Request)
     (fits : IsSlot slot) (long : Long cs os ws)
     (read : WordAs (x .asked) w) (count : length (x .context .words) ≡ mostPanels)
-    (clocks : cs′ ≡ set cs slot (x .clock .0)) (operations : os′ ≡ set os slot w)
+    (clocks : cs′ ≡ set cs slot (x .clock .0)) (askings : os′ ≡ set os slot w)
     (contexts : ws′ ≡ sets ws (mostPanels * slot) (x .context .words)) where
   word-there : getD os′ slot 0 ≡ w
-  word-there = ap (λ (l : List ℕ). getD l slot 0) operations ∙ getD-set-same os slot w 0 (omega arith)
+  word-there = ap (λ (l : List ℕ). getD l slot 0) askings ∙ getD-set-same os slot w 0 (omega arith)
 
   read-again : x .number ≡ numberOf slot → requestAt cs′ os′ ws′ slot ≡ x
   unfolding requestAt contextAt
@@ -71,7 +71,7 @@ module _ {cs os ws cs′ os′ ws′ : List ℕ} {slot w : ℕ} (x : Request)
   pub stored : Stored cs os ws slot x cs′ os′ ws′
   stored = record {
     clocks = clocks;
-    operations = operations ∙ ap (set os slot) (read .word);
+    askings = askings ∙ ap (set os slot) (read .word);
     contexts = contexts;
     words = count;
     there = read-again;
@@ -85,7 +85,7 @@ module _ {cs os ws cs′ os′ ws′ : List ℕ} {slot : ℕ} {x : Request} (aft
       let clock : getD cs′ t 0 ≡ getD cs t 0 =
       ap (λ (l : List ℕ). getD l t 0) (after .clocks) ∙ getD-set-other cs slot t (x .clock .0) 0 other in
       let word : getD os′ t 0 ≡ getD os t 0 =
-      ap (λ (l : List ℕ). getD l t 0) (after .operations) ∙ getD-set-other os slot t _ 0 other in
+      ap (λ (l : List ℕ). getD l t 0) (after .askings) ∙ getD-set-other os slot t _ 0 other in
       let words : wordsAt ws′ t ≡ wordsAt ws t =
       ap (λ (l : List ℕ). wordsAt l t) (after .contexts) ∙ words-other ws (x .context .words) slot (after .words) t other in
       λ i. record {
@@ -99,6 +99,6 @@ module _ {cs os ws cs′ os′ ws′ : List ℕ} {slot : ℕ} {x : Request} (aft
   pub stored-long : Long cs os ws → Long cs′ os′ ws′
   stored-long long = record {
     clocks = ap length (after .clocks) ∙ length-set cs slot _ ∙ long .clocks;
-    operations = ap length (after .operations) ∙ length-set os slot _ ∙ long .operations;
+    askings = ap length (after .askings) ∙ length-set os slot _ ∙ long .askings;
     contexts = ap length (after .contexts) ∙ length-sets ws (mostPanels * slot) (x .context .words) ∙ long .contexts;
   }

@@ -14,7 +14,7 @@ use Rattle.request.specs.declared.Request.{Request}
 use Rattle.numbers.specs.Numbers.{clockReading, mostPanels}
 use Rattle.numbers.specs.internal.Slots.{numberOf}
 use Rattle.sets.specs.Sets.{setOf}
-use Rattle.slots.specs.Slots.{mostSlots}
+use Rattle.ordering.specs.Slots.{mostSlots}
 
 -- ---- the word of what a request asks for: eight bits each for code, r and q, one for the strength, and the upper half for the amount
 
@@ -67,10 +67,10 @@ requestOf n clock asked words = record { number = n; clock = clock; asked = aske
 
 -- the request at slot s, which has the slot's number
 unfoldable pub requestAt : List ℕ → List ℕ → List ℕ → ℕ → Request
-requestAt clocks operations contexts s = record {
+requestAt clocks askings contexts s = record {
   number = numberOf s;
   clock = clockReading (getD clocks s 0);
-  asked = askedIn (getD operations s 0);
+  asked = askedIn (getD askings s 0);
   context = contextAt contexts s;
 }
 
@@ -81,13 +81,13 @@ mostWords = mostPanels * mostSlots
 -- the three arrays are as long as the table needs
 pub record Long (cs os ws : List ℕ) : Type 0 where
   pub clocks : length cs ≡ mostSlots
-  pub operations : length os ≡ mostSlots
+  pub askings : length os ≡ mostSlots
   pub contexts : length ws ≡ mostWords
 
 -- the arrays cs, os and ws became cs′, os′ and ws′: x was stored at a slot, where it is read again if that is its number's slot
 pub record Stored (cs os ws : List ℕ) (slot : ℕ) (x : Request) (cs′ os′ ws′ : List ℕ) : Type 0 where
   pub clocks : cs′ ≡ set cs slot (x .clock .0)
-  pub operations : os′ ≡ set os slot (wordOf (x .asked))
+  pub askings : os′ ≡ set os slot (wordOf (x .asked))
   pub contexts : ws′ ≡ sets ws (mostPanels * slot) (x .context .words)
   pub words : length (x .context .words) ≡ mostPanels
   pub there : x .number ≡ numberOf slot → requestAt cs′ os′ ws′ slot ≡ x

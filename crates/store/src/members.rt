@@ -3,8 +3,8 @@ use numbers::Number;
 ghost use mathlib.Core.Path.{_≡_};
 ghost use lib.ListN.{length};
 ghost use Rattle.numbers.specs.Numbers.{mostPanels};
-ghost use Rattle.numbers.specs.internal.Slots.{numberOf};
-ghost use Rattle.sets.specs.Sets.{setOf, namesFrom, member as memberOf, join as joined, leave as left};
+ghost use Rattle.numbers.specs.internal.Slots.{numberOf, GoodNumber};
+ghost use Rattle.sets.specs.Sets.{setOf, maskOf, namesFrom, member as memberOf, join as joined, leave as left};
 
 // A word for each panel.
 const WORDS: usize = numbers::MOST_PANELS as usize;
@@ -53,6 +53,15 @@ pub fn names_from(words: &[u64; 8], panels: u8) -> bool
     false
 }
 
+// The word in which only n's bit is set.
+fn mask(n: Number) -> u64
+    requires { ⌜ GoodNumber mostPanels n ⌝ }
+    ensures { λ r. ⌜ r ≡ maskOf n ⌝ }
+{
+    let bit = (n.event.0 - 1) as u64;
+    1u64 << bit
+}
+
 // Puts n into the set.
 pub fn join(words: &mut [u64; 8], n: Number)
     ensures { λ _. ⌜ setOf (now (words .exit)) ≡ joined (setOf (now (words .entry))) n ⌝ }
@@ -60,7 +69,7 @@ pub fn join(words: &mut [u64; 8], n: Number)
     if numbers::bad(numbers::MOST_PANELS, n) {
         return;
     }
-    let mask = joining::mask(n);
+    let mask = mask(n);
     let panel = n.panel.0 as usize;
     let word = words[panel];
     words[panel] = word | mask;
@@ -84,7 +93,7 @@ pub fn leave(words: &mut [u64; 8], n: Number)
     if !member(words, n) {
         return;
     }
-    let mask = joining::mask(n);
+    let mask = mask(n);
     let panel = n.panel.0 as usize;
     let word = words[panel];
     words[panel] = word ^ mask;

@@ -12,7 +12,7 @@ ghost use Rattle.numbers.specs.Numbers.{mostPanels};
 ghost use Rattle.numbers.specs.internal.Slots.{numberOf};
 ghost use Rattle.sets.specs.Sets.{setOf, sameContext};
 ghost use Rattle.request.specs.Request.{sameRequest};
-ghost use Rattle.slots.specs.Slots.{IsSlot};
+ghost use Rattle.ordering.specs.Slots.{IsSlot};
 ghost use Rattle.store.specs.Requests.{askedIn, contextAt, requestOf, requestAt, mostWords, WordAs, Long, Stored};
 
 // One past the greatest number in eight bits.
@@ -49,11 +49,11 @@ fn asked_in(word: u64) -> Asked
 }
 
 // What the request at a slot asks for.
-pub fn asked_at(operations: &[u64; 512], slot: usize) -> Asked
+pub fn asked_at(askings: &[u64; 512], slot: usize) -> Asked
     requires { ⌜ IsSlot slot ⌝ }
-    ensures { λ a. ⌜ a ≡ askedIn (getD (now (operations .entry)) slot 0) ⌝ }
+    ensures { λ a. ⌜ a ≡ askedIn (getD (now (askings .entry)) slot 0) ⌝ }
 {
-    let word = operations[slot];
+    let word = askings[slot];
     asked_in(word)
 }
 
@@ -76,17 +76,17 @@ pub fn context_at(contexts: &[u64; 4096], slot: usize) -> Context
 // The request at a slot.
 pub fn request_at<'a>(
     clocks: &'a [u32; 512],
-    operations: &'a [u64; 512],
+    askings: &'a [u64; 512],
     contexts: &'a [u64; 4096],
     slot: u16,
 ) -> Request
-    requires { ⌜ IsSlot slot × Long (now clocks) (now operations) (now contexts) ⌝ }
-    ensures { λ x. ⌜ x ≡ requestAt (now (clocks .entry)) (now (operations .entry)) (now (contexts .entry)) slot ⌝ }
+    requires { ⌜ IsSlot slot × Long (now clocks) (now askings) (now contexts) ⌝ }
+    ensures { λ x. ⌜ x ≡ requestAt (now (clocks .entry)) (now (askings .entry)) (now (contexts .entry)) slot ⌝ }
 {
     let s = slot as usize;
     let clock = clocks[s];
     let number = numbers::number_of(slot);
-    let asked = asked_at(operations, s);
+    let asked = asked_at(askings, s);
     let context = context_at(contexts, s);
     Request {
         number,
@@ -117,20 +117,20 @@ fn same_words<'a>(contexts: &'a [u64; 4096], slot: usize, words: &'a [u64; 8]) -
 // Whether the request at a slot is the one of the slot's number with that clock reading, what it asks for, and those words of its context.
 pub fn same_at<'a>(
     clocks: &'a [u32; 512],
-    operations: &'a [u64; 512],
+    askings: &'a [u64; 512],
     contexts: &'a [u64; 4096],
     slot: u16,
     clock: Clock,
     asked: Asked,
     words: &'a [u64; 8],
 ) -> bool
-    requires { ⌜ IsSlot slot × Long (now clocks) (now operations) (now contexts) × (length (now words) ≡ mostPanels) ⌝ }
-    ensures { λ r. ⌜ r ≡ sameRequest (requestAt (now (clocks .entry)) (now (operations .entry)) (now (contexts .entry)) slot)
+    requires { ⌜ IsSlot slot × Long (now clocks) (now askings) (now contexts) × (length (now words) ≡ mostPanels) ⌝ }
+    ensures { λ r. ⌜ r ≡ sameRequest (requestAt (now (clocks .entry)) (now (askings .entry)) (now (contexts .entry)) slot)
         (requestOf (numberOf slot) clock asked (now (words .entry))) ⌝ }
 {
     let s = slot as usize;
     let reading = clocks[s];
-    let there = asked_at(operations, s);
+    let there = asked_at(askings, s);
     let asking = asks::same(there, asked);
     let named = same_words(contexts, s, words);
     (reading == clock.0) & asking & named
@@ -165,20 +165,20 @@ fn put_words<'a>(contexts: &mut [u64; 4096], slot: usize, words: &'a [u64; 8])
 // Puts a request at its slot: its clock reading, what it asks for, and the words of its context.
 pub fn put_request<'a>(
     clocks: &mut [u32; 512],
-    operations: &mut [u64; 512],
+    askings: &mut [u64; 512],
     contexts: &mut [u64; 4096],
     slot: u16,
     clock: Clock,
     asked: Asked,
     words: &'a [u64; 8],
 )
-    requires { ⌜ IsSlot slot × Long (now clocks) (now operations) (now contexts) × (length (now words) ≡ mostPanels) ⌝ }
-    ensures { λ _. ⌜ Stored (now (clocks .entry)) (now (operations .entry)) (now (contexts .entry)) slot
-        (requestOf (numberOf slot) clock asked (now (words .entry))) (now (clocks .exit)) (now (operations .exit)) (now (contexts .exit)) ⌝ }
+    requires { ⌜ IsSlot slot × Long (now clocks) (now askings) (now contexts) × (length (now words) ≡ mostPanels) ⌝ }
+    ensures { λ _. ⌜ Stored (now (clocks .entry)) (now (askings .entry)) (now (contexts .entry)) slot
+        (requestOf (numberOf slot) clock asked (now (words .entry))) (now (clocks .exit)) (now (askings .exit)) (now (contexts .exit)) ⌝ }
 {
     let s = slot as usize;
     let word = word_of(asked);
     clocks[s] = clock.0;
-    operations[s] = word;
+    askings[s] = word;
     put_words(contexts, s, words);
 }

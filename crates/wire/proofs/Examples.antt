@@ -9,7 +9,8 @@ use Rattle.request.specs.Operations.{codeSet, codeClaim}
 use Rattle.request.specs.Refusal as refusal
 use Rattle.sets.specs.Sets.{emptySet, setOf, allZero, isEmpty}
 use Rattle.wire.specs.Integers.{integerAt, integerBytes}
-use Rattle.wire.specs.Layout.{kinds, kindWith, layout, widthsWith, leastSize, mostSize, decode, encode}
+use Rattle.wire.specs.Layout.{kinds, kindWith, layout, widthsWith, leastSize, mostSize}
+use Rattle.fields.specs.Widths.{decode, encode}
 use Rattle.wire.specs.Message.{BusMessage, request, settlement, kindOf, frontOf, runOf, behindOf, contents}
 use Rattle.wire.specs.Message.{widthsOf, sizeOf, fieldsOf, bytesOf, messageFrom, weakWithContext}
 use Rattle.wire.specs.Reader.{message, end, refused, lengthAt, kindAt, runAt, fieldsAt, spareSet, refusalAs, readAs, readAt}

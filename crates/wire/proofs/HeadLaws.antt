@@ -7,14 +7,16 @@ use native.Mathlib.Omega.{arith}
 use native.Mathlib.Nat.{add-assoc}
 use lib.ListN.{length}
 use Rattle.sets.specs.Sets.{emptySet, setOf}
-use Rattle.parts.specs.Widths.{settlementWidths, weakWidths, strongWidths}
+use Rattle.fields.specs.Widths.{settlementWidths, weakWidths, strongWidths}
 use Rattle.wire.specs.declared.Head.{Head}
 use Rattle.wire.specs.declared.HeadAnswer.{HeadAnswer}
 use Rattle.wire.specs.declared.HeadAnswer.the-variants.{Good, End, Refused}
 use Rattle.wire.specs.declared.Kind.{Kind}
 use Rattle.wire.specs.declared.Kind.the-variants.{Weak, Strong, Settlement}
-use Rattle.wire.specs.Layout.{layout, widthsWith, leastSize, contextWidths, size, decode}
-use Rattle.wire.specs.Message.{BusMessage, request, settlement, kindOf, messageFrom, requestFrom, numberFrom}
+use Rattle.wire.specs.Layout.{layout, widthsWith, leastSize}
+use Rattle.fields.specs.Widths.{contextWidths, size, decode}
+use Rattle.wire.specs.Message.{BusMessage, request, settlement, kindOf, messageFrom}
+use Rattle.fields.specs.Contents.{requestFrom, numberFrom}
 use Rattle.wire.specs.Reader.{Outcome, message, end, refused, readAt}
 use Rattle.wire.specs.Head.{headOf, GoodHead, messageAt}
 use Rattle.wire.specs.internal.LaidOut.{LaidOut}

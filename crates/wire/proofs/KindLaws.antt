@@ -17,15 +17,18 @@ use Rattle.numbers.specs.Numbers.{mostPanels, mostEvents}
 use Rattle.sets.specs.declared.Context.{Context}
 use Rattle.request.specs.declared.Request.{Request}
 use Rattle.sets.specs.Sets.{emptySet, setOf, Words, isEmpty, allZero}
-use Rattle.parts.specs.Widths.{settlementWidths}
-use Rattle.parts.proofs.IntegerLaws.{Bytes}
-use Rattle.parts.proofs.WidthLaws.{decode-within, within-drop, words-small}
+use Rattle.fields.specs.Widths.{settlementWidths}
+use Rattle.fields.proofs.IntegerLaws.{Bytes}
+use Rattle.fields.proofs.WidthLaws.{decode-within, within-drop, words-small}
 use Rattle.wire.specs.declared.Kind.{Kind}
 use Rattle.wire.specs.declared.Kind.the-variants.{Weak, Strong, Settlement}
-use Rattle.wire.specs.Layout.{kindNumber, layout, kindWith, widthsWith, decode, headFields, contextField}
+use Rattle.wire.specs.Layout.{kindNumber, layout, kindWith, widthsWith}
+use Rattle.fields.specs.Widths.{decode, headFields, contextField}
 use Rattle.wire.specs.Layout.{leastSize, mostSize, leastMessage, longestMessage}
-use Rattle.wire.specs.Message.{BusMessage, request, settlement, kindOf, spareByte, numberFields, bodyFields, frontOf, runOf, behindOf}
-use Rattle.wire.specs.Message.{contents, widthsOf, sizeOf, fieldsOf, numberFrom, requestFrom, messageFrom}
+use Rattle.wire.specs.Message.{BusMessage, request, settlement, kindOf, frontOf, runOf, behindOf}
+use Rattle.fields.specs.Contents.{spareByte, numberFields, bodyFields}
+use Rattle.wire.specs.Message.{contents, widthsOf, sizeOf, fieldsOf, messageFrom}
+use Rattle.fields.specs.Contents.{numberFrom, requestFrom}
 use Rattle.wire.specs.Message.{weakWithContext, ContextWords, Fits}
 use Rattle.wire.specs.Reader.{runAt, fieldsAt, spareSet}
 use Rattle.wire.specs.internal.LaidOut.{LaidOut}

@@ -9,10 +9,11 @@ use lib.Dec.{eqb}
 use lib.ListN.{replicate}
 use borrow.Author.Tests.{eqb-true, ne-eqb}
 use Rattle.lists.proofs.ListLaws.{count-never, none-find, found-passes}
-use Rattle.parts.proofs.WidthLaws.{size-append, size-bytes}
+use Rattle.fields.proofs.WidthLaws.{size-append, size-bytes}
 use Rattle.wire.specs.declared.Kind.{Kind}
 use Rattle.wire.specs.declared.KindTold.the-variants.{Known, Unknown}
-use Rattle.wire.specs.Layout.{byteWidth, headSize, size, kinds, kindNumber, layout, kindWith, told, widthsWith, leastSize}
+use Rattle.fields.specs.Widths.{byteWidth, headSize, size}
+use Rattle.wire.specs.Layout.{kinds, kindNumber, layout, kindWith, told, widthsWith, leastSize}
 
 -- ---- sizes
 

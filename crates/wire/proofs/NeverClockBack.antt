@@ -9,7 +9,8 @@ use Rattle.lists.proofs.BoolLaws.{either}
 use Rattle.request.specs.Refusal as refusal
 use Rattle.request.specs.Refusal.{NotClockBack}
 use Rattle.wire.specs.declared.Kind.{Kind}
-use Rattle.wire.specs.Layout.{kindWith, leastSize, mostSize, headSize}
+use Rattle.wire.specs.Layout.{kindWith, leastSize, mostSize}
+use Rattle.fields.specs.Widths.{headSize}
 use Rattle.wire.specs.Message.{sizeOf, weakWithContext}
 use Rattle.wire.specs.Reader.{Outcome, refusalOf, answered, lengthAt, kindAt, fieldsAt, spareSet, refusalAs, readAs, readWith, readAt}
 use Rattle.wire.specs.Writer.{writeRefusal}

@@ -12,8 +12,10 @@ use borrow.Author.Tests.{le-leb, lt-leb, lt-ltb, le-ltb, eq-eqb, ne-eqb, ltb-fal
 use Rattle.lists.specs.Lists.{one, somePasses}
 use Rattle.request.specs.Refusal as refusal
 use Rattle.wire.specs.declared.Kind.{Kind}
-use Rattle.wire.specs.Layout.{kindNumber, kindWith, layout, leastSize, mostSize, headSize}
-use Rattle.wire.specs.Message.{BusMessage, spareByte, messageFrom}
+use Rattle.wire.specs.Layout.{kindNumber, kindWith, layout, leastSize, mostSize}
+use Rattle.fields.specs.Widths.{headSize}
+use Rattle.wire.specs.Message.{BusMessage, messageFrom}
+use Rattle.fields.specs.Contents.{spareByte}
 use Rattle.wire.specs.Reader.{message, end, refused, lengthAt, kindAt, fieldsAt, spareSet}
 use Rattle.wire.specs.internal.LaidOut.{LaidOut}
 use Rattle.wire.specs.Reader.{refusalAs, readAs, readWith, readAt}

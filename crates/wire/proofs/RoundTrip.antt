@@ -19,17 +19,19 @@ use Rattle.request.specs.Refusal as refusal
 use borrow.Author.Tests.{eq-eqb}
 use Rattle.wire.specs.declared.Written.{Written}
 use Rattle.wire.specs.declared.Kind.{Kind}
-use Rattle.wire.specs.Layout.{kindNumber, kindWith, widthsWith, leastSize, mostSize, leastMessage, size, decode, encode, Within}
-use Rattle.wire.specs.Layout.{lengthField, kindField, headFields, headSize}
+use Rattle.wire.specs.Layout.{kindNumber, kindWith, widthsWith, leastSize, mostSize, leastMessage}
+use Rattle.fields.specs.Widths.{size, decode, encode, Within}
+use Rattle.fields.specs.Widths.{lengthField, kindField, headFields, headSize}
 use Rattle.wire.specs.Message.{BusMessage, kindOf, runOf, contents, widthsOf, sizeOf, fieldsOf, bytesOf, messageFrom}
-use Rattle.wire.specs.Message.{numberFrom, weakWithContext, Fits}
+use Rattle.fields.specs.Contents.{numberFrom}
+use Rattle.wire.specs.Message.{weakWithContext, Fits}
 use Rattle.wire.specs.Reader.{Outcome, message, end, refused, answered}
 use Rattle.wire.specs.Reader.{lengthAt, kindAt, runAt, fieldsAt, spareSet, refusalAs, readAs, readAt}
 use Rattle.wire.specs.internal.LaidOut.{LaidOut}
 use Rattle.wire.specs.Writer.{writeRefusal, writeAnswer, afterWrite}
-use Rattle.parts.specs.Widths.{settlementWidths}
-use Rattle.parts.proofs.IntegerLaws.{Bytes}
-use Rattle.parts.proofs.WidthLaws.{fields-back, run-back, decode-within}
+use Rattle.fields.specs.Widths.{settlementWidths}
+use Rattle.fields.proofs.IntegerLaws.{Bytes}
+use Rattle.fields.proofs.WidthLaws.{fields-back, run-back, decode-within}
 use Rattle.wire.proofs.LayoutLaws.{size-with, head-least, known-number}
 use Rattle.wire.proofs.KindLaws.{kind-laws, run-most, message-back, message-clear}
 use Rattle.wire.proofs.ReaderLaws.{laid-out, accepted-laid-out, laid-inside, refused-as, read-as}

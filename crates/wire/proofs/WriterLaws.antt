@@ -12,16 +12,17 @@ use Rattle.request.specs.Refusal as refusal
 use Rattle.wire.specs.declared.Message.{Message}
 use Rattle.wire.specs.declared.Kind.{Kind}
 use Rattle.wire.specs.declared.Kind.the-variants.{Weak, Strong, Settlement}
-use Rattle.wire.specs.Layout.{headWidths, numberWidths, bodyWidths, contextWidths, headSize, size, encode}
+use Rattle.fields.specs.Widths.{headWidths, numberWidths, bodyWidths, contextWidths, headSize, size, encode}
 use Rattle.wire.specs.Layout.{kindNumber, layout, widthsWith, mostSize, longestMessage}
-use Rattle.wire.specs.Message.{BusMessage, kindOf, numberFields, bodyFields, runOf, widthsOf, sizeOf, fieldsOf, bytesOf}
+use Rattle.wire.specs.Message.{BusMessage, kindOf, runOf, widthsOf, sizeOf, fieldsOf, bytesOf}
+use Rattle.fields.specs.Contents.{numberFields, bodyFields}
 use Rattle.wire.specs.Message.{weakWithContext, Fits, said}
 use Rattle.wire.specs.Writer.{writeRefusal, writeAnswer, afterWrite}
-use Rattle.parts.specs.Widths.{settlementWidths, weakWidths}
-use Rattle.parts.proofs.WidthLaws.{length-encode, length-within, fields-then}
+use Rattle.fields.specs.Widths.{settlementWidths, weakWidths}
+use Rattle.fields.proofs.WidthLaws.{length-encode, length-within, fields-then}
 use Rattle.wire.proofs.LayoutLaws.{size-with}
 use Rattle.wire.proofs.KindLaws.{kind-laws}
-use Rattle.wire.proofs.HeldLaws.{bytesFor, said-bytes}
+use Rattle.wire.proofs.MessageLaws.{bytesFor, said-bytes}
 
 -- a message has as many bytes as its size says
 pub length-bytes : (m : BusMessage) → Fits m → length (bytesOf m) ≡ sizeOf m

@@ -1,19 +1,19 @@
 -- The layout of bus messages, document 01's table: for each kind its number and its fields in order. Sizes, reading and writing follow
--- from it. The widths, and what follows for any widths, are those of `parts`, passed on.
+-- from it. The widths, and what follows for any widths, are those of `fields`.
 use Prim.Native.Nat.{ℕ, _+_}
 use mathlib.Core.List.{List, [], _∷_, _++_}
 use mathlib.Core.Option.{Option, none, some}
 use lib.Dec.{eqb}
 use lib.ListN.{replicate}
 use Rattle.lists.specs.Lists.{find}
-use Rattle.parts.specs.Widths.{settlementWidths, strongWidths}
+use Rattle.fields.specs.Widths.{settlementWidths, strongWidths}
 use Rattle.wire.specs.declared.Kind.{Kind}
 use Rattle.wire.specs.declared.Kind.the-variants.{Weak, Strong, Settlement}
 use Rattle.wire.specs.declared.KindTold.{KindTold}
 use Rattle.wire.specs.declared.KindTold.the-variants.{Known, Unknown}
-unfoldable pub use Rattle.parts.specs.Widths.{decode, encode}
-pub use Rattle.parts.specs.Widths.{headWidths, numberWidths, bodyWidths, byteWidth, wordWidth, contextWidths, size, Within}
-pub use Rattle.parts.specs.Widths.{lengthField, kindField, spareField, contextField, headFields, headSize}
+use Rattle.fields.specs.Widths.{decode, encode}
+use Rattle.fields.specs.Widths.{headWidths, numberWidths, bodyWidths, byteWidth, wordWidth, contextWidths, size, Within}
+use Rattle.fields.specs.Widths.{lengthField, kindField, spareField, contextField, headFields, headSize}
 
 -- ---- the table
 

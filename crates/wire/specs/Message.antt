@@ -1,5 +1,5 @@
 -- Bus messages, the fields they have, and the form in which the code holds them. The fields of a number and of a body are those of
--- `parts`, passed on.
+-- `fields`.
 use Prim.Native.Nat.{ℕ, _≤_}
 use mathlib.Core.Bool.{Bool, true, false, not, _&&_, cond}
 use mathlib.Core.List.{List, [], _∷_, _++_}
@@ -13,8 +13,9 @@ use Rattle.wire.specs.declared.Kind.{Kind}
 use Rattle.wire.specs.declared.Kind.the-variants.{Weak, Strong, Settlement}
 use Rattle.wire.specs.declared.Subject.{Subject}
 use Rattle.wire.specs.declared.Subject.the-variants.{Request as aRequest, Settlement as aSettlement}
-use Rattle.wire.specs.Layout.{kindNumber, layout, widthsWith, size, encode, Within, contextField}
-pub use Rattle.parts.specs.Contents.{spareByte, numberFields, bodyFields, numberFrom, requestFrom}
+use Rattle.wire.specs.Layout.{kindNumber, layout, widthsWith}
+use Rattle.fields.specs.Widths.{size, encode, Within, contextField}
+use Rattle.fields.specs.Contents.{spareByte, numberFields, bodyFields, numberFrom, requestFrom}
 
 -- a bus message: a request, weak or strong, or the settlement of a number
 pub data BusMessage : Type 0 where
@@ -83,7 +84,7 @@ abbrev pub ContextWords : BusMessage → Type 0
 ContextWords (request r) = Words (r .context)
 ContextWords (settlement n) = Unit {0}
 
--- no field held is wider than in its message, and the run is not longer than its kind has it
+-- no field that the code has is wider than in its message, and the run is not longer than its kind has it
 pub record Fits (m : BusMessage) : Type 0 where
   pub fields : Within (widthsOf m) (fieldsOf m)
   pub run : length (runOf m) ≤ layout (kindOf m) .mostRun
@@ -91,10 +92,10 @@ pub record Fits (m : BusMessage) : Type 0 where
 
 -- ---- as the code holds them
 
--- what is held for a message
-unfoldable pub held : BusMessage → Message
-held (request r) = record { subject = aRequest; request = r }
-held (settlement n) = record { subject = aSettlement; request = bareRequest n }
+-- what the code has for a message
+unfoldable pub asMessage : BusMessage → Message
+asMessage (request r) = record { subject = aRequest; request = r }
+asMessage (settlement n) = record { subject = aSettlement; request = bareRequest n }
 
 -- zeros, where there is no message
 unfoldable pub noMessage : Message
@@ -105,6 +106,6 @@ abbrev pub about : Subject → Request → BusMessage
 about aRequest r = request r
 about aSettlement r = settlement (r .number)
 
--- the message that is held
+-- the message that the code has
 unfoldable pub said : Message → BusMessage
 said m = about (m .subject) (m .request)

@@ -11,8 +11,10 @@ use Rattle.wire.specs.declared.ReadAnswer.{ReadAnswer}
 use Rattle.wire.specs.declared.ReadAnswer.the-variants.{Message as aMessage, End, Refused}
 use Rattle.wire.specs.declared.Reading.{Reading}
 use Rattle.wire.specs.declared.Kind.{Kind}
-use Rattle.wire.specs.Layout.{layout, kindWith, widthsWith, leastSize, mostSize, headWidths, headSize, decode, lengthField, kindField}
-use Rattle.wire.specs.Message.{BusMessage, spareByte, messageFrom, held, noMessage}
+use Rattle.wire.specs.Layout.{layout, kindWith, widthsWith, leastSize, mostSize}
+use Rattle.fields.specs.Widths.{headWidths, headSize, decode, lengthField, kindField}
+use Rattle.wire.specs.Message.{BusMessage, messageFrom, asMessage, noMessage}
+use Rattle.fields.specs.Contents.{spareByte}
 
 -- document 01's number for each answer: a refusal's own, and 0 for the others
 abbrev pub refusalOf : ReadAnswer → ℕ
@@ -32,7 +34,7 @@ untaken a = record { answer = a; message = noMessage; taken = 0 }
 
 -- the answer for each outcome
 unfoldable pub answered : Outcome → Reading
-answered (message m n) = record { answer = aMessage; message = held m; taken = n }
+answered (message m n) = record { answer = aMessage; message = asMessage m; taken = n }
 answered end = untaken End
 answered (refused w) = untaken (Refused w)
 

@@ -29,7 +29,7 @@ writeAnswer m room =
 unfoldable pub afterWrite : BusMessage → List ℕ → List ℕ
 afterWrite m out = cond (eqb (writeRefusal m (length out)) refusal.accepted) (bytesOf m ++ drop (sizeOf m) out) out
 
--- what the writer does with the held message m, where the lent bytes were out and are out′
+-- what the writer does with the message m, where the lent bytes were out and are out′
 pub record Wrote (m : Message) (out out′ : List ℕ) (r : Written) : Type 0 where
   pub answer : r ≡ writeAnswer (said m) (length out)
   pub after : out′ ≡ afterWrite (said m) out

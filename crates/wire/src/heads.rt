@@ -4,13 +4,14 @@ use super::HeadAnswer;
 use super::Kind;
 use super::KindTold;
 use super::layout;
-use parts::integers;
-use parts::places;
+use fields::integers;
+use fields::places;
 use request::refusal;
 ghost use mathlib.Core.Path.{_≡_};
 ghost use Prim.Native.Nat.{_+_, _≤_};
 ghost use lib.ListN.{length as len};
-ghost use Rattle.wire.specs.Layout.{leastSize, headSize};
+ghost use Rattle.wire.specs.Layout.{leastSize};
+ghost use Rattle.fields.specs.Widths.{headSize};
 ghost use Rattle.wire.specs.Reader.{lengthAt, fieldsAt, spareSet, refusalAs, readAs, readAt};
 ghost use Rattle.wire.specs.Head.{headOf, untakenHead};
 

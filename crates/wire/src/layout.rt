@@ -1,7 +1,7 @@
 // The numbers of the kinds and the sizes of their messages, as `layout` of `specs/` has them.
 use super::Kind;
 use super::KindTold;
-use parts::places;
+use fields::places;
 ghost use mathlib.Core.Path.{_≡_};
 ghost use Rattle.wire.specs.Layout.{kindNumber, kindWith, told, layout, leastSize};
 

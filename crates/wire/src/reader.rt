@@ -5,11 +5,11 @@ use super::Message;
 use super::ReadAnswer;
 use super::Reading;
 use super::heads;
-use super::held;
-use parts::reading;
+use super::messages;
+use fields::reading;
 use request::refusal;
 ghost use mathlib.Core.Path.{_≡_};
-ghost use Rattle.wire.specs.Message.{held as heldFor};
+ghost use Rattle.wire.specs.Message.{asMessage};
 ghost use Rattle.wire.specs.Reader.{answered, untaken as untakenBy, refusalOf, readAt};
 ghost use Rattle.wire.specs.Head.{GoodHead, messageAt};
 
@@ -47,22 +47,22 @@ pub fn refusal_of(answer: ReadAnswer) -> u8
 // The message at a place with a good head of its kind.
 fn message_at(s: &[u8], at: usize, kind: Kind) -> Message
     requires { ⌜ GoodHead kind (now s) at ⌝ }
-    ensures { λ r. ⌜ r ≡ heldFor (messageAt kind (now (s .entry)) at) ⌝ }
+    ensures { λ r. ⌜ r ≡ asMessage (messageAt kind (now (s .entry)) at) ⌝ }
 {
     match kind {
         Kind::Weak => {
             let context = sets::empty();
             let request = reading::request_at(s, at, false, context);
-            held::of_request(request)
+            messages::of_request(request)
         }
         Kind::Strong => {
             let context = reading::context_at(s, at);
             let request = reading::request_at(s, at, true, context);
-            held::of_request(request)
+            messages::of_request(request)
         }
         Kind::Settlement => {
             let number = reading::number_at(s, at);
-            held::of_settlement(number)
+            messages::of_settlement(number)
         }
     }
 }
@@ -73,7 +73,7 @@ fn untaken(answer: ReadAnswer) -> Reading
 {
     Reading {
         answer: answer,
-        message: held::nothing(),
+        message: messages::nothing(),
         taken: 0,
     }
 }

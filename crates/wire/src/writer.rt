@@ -3,11 +3,11 @@ use super::Kind;
 use super::Message;
 use super::Subject;
 use super::Written;
-use super::held;
 use super::layout;
-use parts::integers;
-use parts::places;
-use parts::writing;
+use super::messages;
+use fields::integers;
+use fields::places;
+use fields::writing;
 use request::Request;
 use request::refusal;
 ghost use mathlib.Core.Path.{_≡_};
@@ -15,7 +15,8 @@ ghost use Prim.Native.Nat.{_≤_};
 ghost use mathlib.Core.List.{_∷_, []};
 ghost use lib.ListN.{length};
 ghost use lib.Seq.{sets as put};
-ghost use Rattle.wire.specs.Layout.{kindNumber, headWidths, headSize, encode};
+ghost use Rattle.wire.specs.Layout.{kindNumber};
+ghost use Rattle.fields.specs.Widths.{headWidths, headSize, encode};
 ghost use Rattle.wire.specs.Message.{request as requestMessage, said, bytesOf, weakWithContext};
 ghost use Rattle.wire.specs.Writer.{Wrote};
 ghost use Rattle.wire.specs.internal.PutAsks.{PutAsks};
@@ -30,8 +31,8 @@ pub fn write(out: &mut [u8], m: Message) -> Written
             bytes: 0,
         };
     }
-    let kind = held::kind_of(m);
-    let size = held::size_of(m);
+    let kind = messages::kind_of(m);
+    let size = messages::size_of(m);
     if out.len() < size {
         return Written {
             refusal: refusal::NO_ROOM,

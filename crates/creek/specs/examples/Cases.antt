@@ -7,8 +7,8 @@ use lib.ListN.{set, replicate}
 use Rattle.numbers.specs.Numbers.{numbered}
 use Rattle.sets.specs.Sets.{emptySet, join}
 use Rattle.request.specs.Refusal as refused
-use Rattle.registers.specs.Replay.{zeroBoard}
-use Rattle.registers.specs.Claims.{claimAll}
+use Rattle.effects.specs.Replay.{zeroBoard}
+use Rattle.effects.specs.Claims.{claimAll}
 use Rattle.creek.specs.Plan.{order}
 use Rattle.creek.specs.Book.{Call, deliver, commit}
 use Rattle.creek.specs.Calls.{Replica, freshRefusal, fresh}

@@ -10,7 +10,7 @@ use Rattle.request.specs.declared.Request.{Request}
 use Rattle.numbers.specs.Numbers.{numbered}
 use Rattle.request.specs.Operations.{codeRead, codeSet, codeAdd, codeClaim, codeMove}
 use Rattle.sets.specs.Sets.{emptySet}
-use Rattle.registers.specs.Effect.{exec, response}
+use Rattle.effects.specs.Effect.{exec, response}
 use Rattle.creek.specs.declared.Answer.{Answer}
 use Rattle.creek.specs.Book.{Call, invoke}
 use Rattle.creek.specs.Calls.{Replica, step, answer}

@@ -8,8 +8,8 @@ use Rattle.sets.specs.Sets.{emptySet, join}
 use Rattle.request.specs.declared.Operation.{Operation}
 use Rattle.request.specs.Operations.{lastRegister}
 use Rattle.request.specs.Refusal as refused
-use Rattle.registers.specs.Replay.{replayOn}
-use Rattle.registers.specs.Moves.{sum}
+use Rattle.effects.specs.Replay.{replayOn}
+use Rattle.effects.specs.Moves.{sum}
 use Rattle.creek.specs.Book.{Call, deliver, execute}
 use Rattle.creek.specs.Calls.{answer, fresh}
 use Rattle.creek.specs.History.{run}

@@ -14,8 +14,8 @@ use Rattle.driver.proofs.run_all.Tie as tie
 
 -- the panel of that shop and own number, with those counts, counters and arrays
 abbrev whole : ℕ → PanelNo → (committed ordered executed stacked commits clock events undos executions : ℕ)
-    (held known awaiting clocks operations contexts order stack registers saved responses settled : List ℕ) → State
-whole panels own committed ordered executed stacked commits clock events undos executions held known awaiting clocks operations contexts
+    (held known awaiting clocks askings contexts order stack registers saved responses settled : List ℕ) → State
+whole panels own committed ordered executed stacked commits clock events undos executions held known awaiting clocks askings contexts
     order stack registers saved responses settled =
     packed (record {
       panels = panels;
@@ -27,23 +27,23 @@ whole panels own committed ordered executed stacked commits clock events undos e
       executed = executed;
       stacked = stacked;
       commits = commits;
-    }) (record { undos = undos; executions = executions }) held known awaiting clocks operations contexts order stack registers saved
+    }) (record { undos = undos; executions = executions }) held known awaiting clocks askings contexts order stack registers saved
     responses settled
 
 abbrev Inv-loop : tie.InvT-loop
 Inv-loop panels own committed₀ ordered₀ executed₀ stacked₀ commits₀ clock₀ events₀ undos₀ executions₀ held₀ known₀ awaiting₀ clocks₀
     operations₀ contexts₀ order₀ stack₀ registers₀ saved₀ responses₀ settled₀ s count out₀ at₀ behind₀ i₀ committed ordered executed
-    stacked commits clock events undos executions held known awaiting clocks operations contexts order stack registers saved responses
+    stacked commits clock events undos executions held known awaiting clocks askings contexts order stack registers saved responses
     settled out at behind i =
     Running (whole panels own committed₀ ordered₀ executed₀ stacked₀ commits₀ clock₀ events₀ undos₀ executions₀ held₀ known₀ awaiting₀
     clocks₀ operations₀ contexts₀ order₀ stack₀ registers₀ saved₀ responses₀ settled₀) s count out₀ out (whole panels own committed
-    ordered executed stacked commits clock events undos executions held known awaiting clocks operations contexts order stack registers
+    ordered executed stacked commits clock events undos executions held known awaiting clocks askings contexts order stack registers
     saved responses settled) at behind i
 
 abbrev μ-loop : tie.MeasureT-loop
 μ-loop panels own committed₀ ordered₀ executed₀ stacked₀ commits₀ clock₀ events₀ undos₀ executions₀ held₀ known₀ awaiting₀ clocks₀
     operations₀ contexts₀ order₀ stack₀ registers₀ saved₀ responses₀ settled₀ s count out₀ at₀ behind₀ i₀ committed ordered executed
-    stacked commits clock events undos executions held known awaiting clocks operations contexts order stack registers saved responses
+    stacked commits clock events undos executions held known awaiting clocks askings contexts order stack registers saved responses
     settled out at behind i =
     count - i
 

@@ -11,12 +11,12 @@ use Rattle.due.proofs.execute_all.Statement.{statement}
 use Rattle.due.proofs.execute_all.Tie as tie
 
 abbrev Inv-loop : tie.InvT-loop
-Inv-loop committed ordered executed stacked undos awaiting₀ operations order stack₀ registers₀ saved₀ responses₀ first executions replies₀ count₀ at₀ awaiting stack registers saved responses replies count at =
-    ExecutingParts (executeWith committed ordered executed stacked awaiting₀ operations order stack₀ registers₀ saved₀ responses₀)
+Inv-loop committed ordered executed stacked undos awaiting₀ askings order stack₀ registers₀ saved₀ responses₀ first executions replies₀ count₀ at₀ awaiting stack registers saved responses replies count at =
+    ExecutingParts (executeWith committed ordered executed stacked awaiting₀ askings order stack₀ registers₀ saved₀ responses₀)
     awaiting stack registers saved responses replies count at
 
 abbrev μ-loop : tie.MeasureT-loop
-μ-loop committed ordered executed stacked undos awaiting₀ operations order stack₀ registers₀ saved₀ responses₀ first executions replies₀ count₀ at₀ awaiting stack registers saved responses replies count at =
+μ-loop committed ordered executed stacked undos awaiting₀ askings order stack₀ registers₀ saved₀ responses₀ first executions replies₀ count₀ at₀ awaiting stack registers saved responses replies count at =
     ordered - at
 
 -- ---- the places in the loop
@@ -34,7 +34,7 @@ start c = c .before .before .before .before
 -- what is lent
 abbrev lent : tie.Start Inv-loop μ-loop → ExecuteLent
 lent a =
-    executeNow (a .args .committed) (a .args .ordered) (a .args .executed) (a .args .stacked) (a .args .awaiting) (a .args .operations)
+    executeNow (a .args .committed) (a .args .ordered) (a .args .executed) (a .args .stacked) (a .args .awaiting) (a .args .askings)
     (a .args .order) (a .args .stack) (a .args .registers) (a .args .saved) (a .args .responses)
 
 -- ---- what is known there
@@ -45,7 +45,7 @@ asked c = execute-asks (lent (start c)) (c .before .loop .inv) (start c .pre .0)
 next : (c : tie.After-put-on Inv-loop μ-loop)
     → let here = body (executed c) .before .loop in
     let a = start (body (executed c)) in
-    Next (a .args .committed) (here .awaiting) (a .args .operations .now) (a .args .order .now) (here .stack) (here .registers) (here .saved)
+    Next (a .args .committed) (here .awaiting) (a .args .askings .now) (a .args .order .now) (here .stack) (here .registers) (here .saved)
     (here .responses) (here .at) (c .put-on .last .1 .0) (c .put-on .last .1 .1 .0) (executed c .execute-due .last .0)
     (c .put-on .last .1 .1 .1 .0) (c .put-on .last .1 .1 .1 .1 .0) (c .put-on .result)
 next c =

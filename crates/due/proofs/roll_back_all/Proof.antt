@@ -6,15 +6,15 @@ use Rattle.due.proofs.roll_back_all.Statement.{statement}
 use Rattle.due.proofs.roll_back_all.Tie as tie
 
 abbrev Inv-loop : tie.InvT-loop
-Inv-loop executed stacked operations stack registers₀ saved left₀ registers left =
-    RollingParts (undoWith executed stacked operations stack registers₀ saved) registers left
+Inv-loop executed stacked askings stack registers₀ saved left₀ registers left =
+    RollingParts (undoWith executed stacked askings stack registers₀ saved) registers left
 
 abbrev μ-loop : tie.MeasureT-loop
-μ-loop executed stacked operations stack registers₀ saved left₀ registers left = left
+μ-loop executed stacked askings stack registers₀ saved left₀ registers left = left
 
 -- what is lent
 abbrev lent : tie.Start Inv-loop μ-loop → UndoLent
-lent a = undoNow (a .args .executed) (a .args .stacked) (a .args .operations) (a .args .stack) (a .args .registers) (a .args .saved)
+lent a = undoNow (a .args .executed) (a .args .stacked) (a .args .askings) (a .args .stack) (a .args .registers) (a .args .saved)
 
 abbrev start : tie.At-loop Inv-loop μ-loop → tie.Start Inv-loop μ-loop
 start c = c .before .before

@@ -9,7 +9,7 @@ use Rattle.numbers.proofs.NumberLaws.{slot-fits, number-of-slot}
 use Rattle.sets.specs.Sets.{setOf, member}
 use Rattle.request.specs.declared.Request.{Request}
 use Rattle.request.specs.Refusal as refused
-use Rattle.slots.specs.Slots.{IsSlot}
+use Rattle.ordering.specs.Slots.{IsSlot}
 use Rattle.store.specs.Requests.{requestOf, requestAt}
 use Rattle.creek.specs.Plan.{heldRefusal}
 use Rattle.replica.specs.State.{State}
@@ -38,7 +38,7 @@ unheld c = c .before .before .before .before
 abbrev lent : tie.Start → State → State
 lent a =
     deliverParts (a .args .panels) (a .args .own) (a .args .committed) (lentNow (a .args .ordered) (a .args .executed) (a .args .held)
-    (a .args .known) (a .args .clocks) (a .args .operations) (a .args .contexts) (a .args .order))
+    (a .args .known) (a .args .clocks) (a .args .askings) (a .args .contexts) (a .args .order))
 
 -- the request under a number, and under its own
 abbrev numbered : tie.Start → Number → Request
@@ -50,7 +50,7 @@ heard a = numbered a (a .args .number)
 -- ---- what is known there
 
 judged-new : (c : tie.After-slot-of) → judged (start c .args .panels) (start c .args .own .0) (heard (start c)) ≡ refused.accepted
-judged-new c = let else = c .before in sym (else .before .judge .ensures) ∙ else .if1 .left
+judged-new c = let else = c .before in sym (else .before .deliver-refusal .ensures) ∙ else .if1 .left
 
 good : (c : tie.After-slot-of) → GoodNumber mostPanels (start c .args .number)
 good c = let a = start c in judged-good (lent a (a .pre .parts .panel)) (heard a) (a .pre .parts .invariant) (judged-new c)
@@ -75,13 +75,13 @@ enters c p inv = let slot = slotted (c .before) in heard-enters (lent (start slo
 
 -- ---- what the function needs
 
-judge-requires : tie.Need-judge-requires
-judge-requires c κs = c .pre .long
+deliver-refusal-requires : tie.Need-deliver-refusal-requires
+deliver-refusal-requires c κs = c .pre .long
 
 returns : tie.Need-returns
 returns c =
     let a = c .before .before in
-    record { kept = λ p inv. kept-judged (lent a p) (heard a) inv _ _ (c .before .judge .ensures) (c .if1 .taken) refl }
+    record { kept = λ p inv. kept-judged (lent a p) (heard a) inv _ _ (c .before .deliver-refusal .ensures) (c .if1 .taken) refl }
 
 slot-of-requires : tie.Need-slot-of-requires
 slot-of-requires c κs = search needs
@@ -100,7 +100,7 @@ returns-2 c =
     let held = c .before .before .before .before in
     let slot = slotted (held .before) in
     let a = start slot in
-    let y = requestAt (a .args .clocks .now) (a .args .operations .now) (a .args .contexts .now) (slot .slot-of .result) in
+    let y = requestAt (a .args .clocks .now) (a .args .askings .now) (a .args .contexts .now) (slot .slot-of .result) in
     record {
       kept = λ p inv.
           kept-held (lent a p) (heard a) inv (judged-new slot) (sym (member-is (held .before)) ∙ held .if2 .taken) _
@@ -150,7 +150,7 @@ pub deliver-spec : {M : Type 1} → statement M
 deliver-spec =
     tie.close
     (tie.spec
-    judge-requires
+    deliver-refusal-requires
     returns
     slot-of-requires
     member-at-requires

@@ -24,7 +24,7 @@ known c = c .before .before .before .before
 -- a panel with the parts lent, and the request
 abbrev lent : tie.Start → State
 lent a =
-    hearing (lentNow (a .args .ordered) (a .args .executed) (a .args .held) (a .args .known) (a .args .clocks) (a .args .operations)
+    hearing (lentNow (a .args .ordered) (a .args .executed) (a .args .held) (a .args .known) (a .args .clocks) (a .args .askings)
     (a .args .contexts) (a .args .order)) (a .pre .panel)
 
 abbrev heard : tie.Start → Request

@@ -43,7 +43,7 @@ asked c = c .before .before .before .before .before .before .before .before .bef
 abbrev lent : tie.Start → State → State
 lent a =
     invokeParts (a .args .own) (a .args .committed) (ownNow (a .args .awaiting) (a .args .events) (a .args .clock))
-    (lentNow (a .args .ordered) (a .args .executed) (a .args .held) (a .args .known) (a .args .clocks) (a .args .operations)
+    (lentNow (a .args .ordered) (a .args .executed) (a .args .held) (a .args .known) (a .args .clocks) (a .args .askings)
     (a .args .contexts) (a .args .order))
 
 -- ---- what is known there

@@ -23,7 +23,7 @@ put c = c .before .before .before
 abbrev lent : tie.Start → State → State
 lent a =
     takeParts (a .args .panels) (a .args .own) (lentNow (a .args .committed) (a .args .ordered) (a .args .executed) (a .args .commits)
-    (a .args .held) (a .args .known) (a .args .awaiting) (a .args .clocks) (a .args .operations) (a .args .contexts) (a .args .order)
+    (a .args .held) (a .args .known) (a .args .awaiting) (a .args .clocks) (a .args .askings) (a .args .contexts) (a .args .order)
     (a .args .stack) (a .args .responses) (a .args .settled))
 
 -- ---- what the function needs

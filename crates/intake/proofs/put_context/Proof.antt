@@ -5,8 +5,8 @@ use mathlib.Core.Path.{_≡_, ap, _∙_}
 use lib.ListN.{length, length-replicate}
 use Rattle.numbers.specs.Numbers.{mostPanels}
 use Rattle.sets.specs.Sets.{setOf}
-use Rattle.parts.specs.Widths.{contextWidths}
-use Rattle.parts.proofs.WidthLaws.{length-decode}
+use Rattle.fields.specs.Widths.{contextWidths}
+use Rattle.fields.proofs.WidthLaws.{length-decode}
 use borrow.Author.Needs.{needs}
 use Rattle.intake.proofs.put_context.Statement.{statement}
 use Rattle.intake.proofs.put_context.Tie as tie

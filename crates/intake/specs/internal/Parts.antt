@@ -11,7 +11,7 @@ use Rattle.numbers.specs.Numbers.{noNumber, mostPanels}
 use Rattle.sets.specs.declared.Context.{Context}
 use Rattle.sets.specs.Sets.{setOf, emptySet}
 use Rattle.request.specs.declared.Request.{Request}
-use Rattle.parts.specs.Widths.{weakWidths, contextWidths, size, decode}
+use Rattle.fields.specs.Widths.{weakWidths, contextWidths, size, decode}
 use Rattle.creek.specs.declared.Answer.{Answer}
 use Rattle.creek.specs.Book.{deliver}
 use Rattle.creek.specs.Replies.{refusedWith}
@@ -33,7 +33,7 @@ pub record Lent : Type 0 where
   pub known : List ℕ
   pub awaiting : List ℕ
   pub clocks : List ℕ
-  pub operations : List ℕ
+  pub askings : List ℕ
   pub contexts : List ℕ
   pub order : List ℕ
   pub stack : List ℕ
@@ -42,8 +42,8 @@ pub record Lent : Type 0 where
 
 -- what references to them refer to: where they are passed, at a function's entry, and at its exit
 abbrev pub lentNow : (committed ordered executed commits : RefT ℕ)
-    (held known awaiting clocks operations contexts order stack responses settled : RefT (List ℕ)) → Lent
-lentNow committed ordered executed commits held known awaiting clocks operations contexts order stack responses settled = record {
+    (held known awaiting clocks askings contexts order stack responses settled : RefT (List ℕ)) → Lent
+lentNow committed ordered executed commits held known awaiting clocks askings contexts order stack responses settled = record {
   committed = committed .now;
   ordered = ordered .now;
   executed = executed .now;
@@ -52,7 +52,7 @@ lentNow committed ordered executed commits held known awaiting clocks operations
   known = known .now;
   awaiting = awaiting .now;
   clocks = clocks .now;
-  operations = operations .now;
+  askings = askings .now;
   contexts = contexts .now;
   order = order .now;
   stack = stack .now;
@@ -61,16 +61,16 @@ lentNow committed ordered executed commits held known awaiting clocks operations
 }
 
 abbrev pub lentEntry : (committed ordered executed commits : Both (RefT ℕ) (RefT ℕ))
-    (held known awaiting clocks operations contexts order stack responses settled : Both (RefT (List ℕ)) (RefT (List ℕ))) → Lent
-lentEntry committed ordered executed commits held known awaiting clocks operations contexts order stack responses settled =
+    (held known awaiting clocks askings contexts order stack responses settled : Both (RefT (List ℕ)) (RefT (List ℕ))) → Lent
+lentEntry committed ordered executed commits held known awaiting clocks askings contexts order stack responses settled =
     lentNow (committed .entry) (ordered .entry) (executed .entry) (commits .entry) (held .entry) (known .entry) (awaiting .entry)
-    (clocks .entry) (operations .entry) (contexts .entry) (order .entry) (stack .entry) (responses .entry) (settled .entry)
+    (clocks .entry) (askings .entry) (contexts .entry) (order .entry) (stack .entry) (responses .entry) (settled .entry)
 
 abbrev pub lentExit : (committed ordered executed commits : Both (RefT ℕ) (RefT ℕ))
-    (held known awaiting clocks operations contexts order stack responses settled : Both (RefT (List ℕ)) (RefT (List ℕ))) → Lent
-lentExit committed ordered executed commits held known awaiting clocks operations contexts order stack responses settled =
+    (held known awaiting clocks askings contexts order stack responses settled : Both (RefT (List ℕ)) (RefT (List ℕ))) → Lent
+lentExit committed ordered executed commits held known awaiting clocks askings contexts order stack responses settled =
     lentNow (committed .exit) (ordered .exit) (executed .exit) (commits .exit) (held .exit) (known .exit) (awaiting .exit) (clocks .exit)
-    (operations .exit) (contexts .exit) (order .exit) (stack .exit) (responses .exit) (settled .exit)
+    (askings .exit) (contexts .exit) (order .exit) (stack .exit) (responses .exit) (settled .exit)
 
 -- a panel of that shop and own number, with those parts
 abbrev pub takeParts : ℕ → PanelNo → Lent → State → State
@@ -89,7 +89,7 @@ takeParts panels own l p = record {
   known = setOf (l .known);
   awaiting = setOf (l .awaiting);
   clocks = l .clocks;
-  operations = l .operations;
+  askings = l .askings;
   contexts = l .contexts;
   order = l .order;
   stack = l .stack;

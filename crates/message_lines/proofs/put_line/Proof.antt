@@ -3,7 +3,7 @@ use Prim.Native.Nat.{_<_, _≤_, _^_}
 use native.Mathlib.Omega.{arith}
 use mathlib.Core.Path.{_≡_}
 use lib.ListN.{length}
-use Rattle.parts.specs.Widths.{decode}
+use Rattle.fields.specs.Widths.{decode}
 use Rattle.report.specs.Lines.{messageLine}
 use Rattle.report.specs.Sizes.{mostMessageBytes}
 use Rattle.report.proofs.SizeLaws.{message-short}

@@ -22,8 +22,8 @@ use Rattle.message_lines.proofs.put_messages.Tie as tie
 
 -- the memory with those numbers and arrays
 abbrev memory : ℕ → PanelNo → (committed ordered executed stacked commits clock events undos executions : ℕ)
-    (held known awaiting clocks operations contexts order stack registers saved responses settled : List ℕ) → State
-memory panels own committed ordered executed stacked commits clock events undos executions held known awaiting clocks operations contexts
+    (held known awaiting clocks askings contexts order stack registers saved responses settled : List ℕ) → State
+memory panels own committed ordered executed stacked commits clock events undos executions held known awaiting clocks askings contexts
     order stack registers saved responses settled =
     packed
     (record {
@@ -38,25 +38,25 @@ memory panels own committed ordered executed stacked commits clock events undos 
       commits = commits;
     })
     (record { undos = undos; executions = executions })
-    held known awaiting clocks operations contexts order stack registers saved responses settled
+    held known awaiting clocks askings contexts order stack registers saved responses settled
 
 abbrev Inv-loop : tie.InvT-loop
 Inv-loop out₀ from input panels own committed₀ ordered₀ executed₀ stacked₀ commits₀ clock events undos₀ executions₀ held₀ known₀
     awaiting₀ clocks₀ operations₀ contexts₀ order₀ stack₀ registers₀ saved₀ responses₀ settled₀ at₀ behind₀ place₀ out committed ordered
-    executed stacked commits undos executions held known awaiting clocks operations contexts order stack registers saved responses
+    executed stacked commits undos executions held known awaiting clocks askings contexts order stack registers saved responses
     settled at behind place =
     Putting
     (memory panels own committed₀ ordered₀ executed₀ stacked₀ commits₀ clock events undos₀ executions₀ held₀ known₀ awaiting₀ clocks₀
     operations₀ contexts₀ order₀ stack₀ registers₀ saved₀ responses₀ settled₀)
     input out₀ from
-    (memory panels own committed ordered executed stacked commits clock events undos executions held known awaiting clocks operations
+    (memory panels own committed ordered executed stacked commits clock events undos executions held known awaiting clocks askings
     contexts order stack registers saved responses settled)
     out at behind place
 
 abbrev μ-loop : tie.MeasureT-loop
 μ-loop out₀ from input panels own committed₀ ordered₀ executed₀ stacked₀ commits₀ clock events undos₀ executions₀ held₀ known₀ awaiting₀
     clocks₀ operations₀ contexts₀ order₀ stack₀ registers₀ saved₀ responses₀ settled₀ at₀ behind₀ place₀ out committed ordered executed
-    stacked commits undos executions held known awaiting clocks operations contexts order stack registers saved responses settled at
+    stacked commits undos executions held known awaiting clocks askings contexts order stack registers saved responses settled at
     behind place =
     length input - at
 

@@ -163,7 +163,7 @@ mizzencord-fresh-spec 𝓤 H 𝓜 𝓖 𝓡 =
           (spelled lent Rs h [] (vint w8 (a .0) ∷ [], (own .spelt .val (a .1 .0) ∷ [], tt))) (emp 𝓤)
           (λ r zs. let z = after zs in Fresh (a .0) (a .1 .0 .0)
           (openedBy (z .committed) (z .ordered) (z .executed) (z .stacked) (z .commits) (z .clock) (z .panels) (z .events) (z .held) (z .known)
-          (z .awaiting) (z .clocks) (z .operations) (z .contexts) (z .order) (z .stack) (z .registers) (z .saved) (z .responses) (z .settled) r))
+          (z .awaiting) (z .clocks) (z .askings) (z .contexts) (z .order) (z .stack) (z .registers) (z .saved) (z .responses) (z .settled) r))
           (loan lent Rs h 𝓤 H (𝓖 .A) W b o a [])
           (had lent Rs h 𝓤 H (𝓖 .A) W b o a [] (vint w8 (a .0) ∷ [], (own .spelt .val (a .1 .0) ∷ [], tt)) told
           (number w8 .makes 𝓤 H (𝓖 .A) W (a .0) _ (are .0), (own .makes 𝓤 H (𝓖 .A) W (a .1 .0) _ (are .1 .0), tt))) (id⊢ 𝓤 _)

@@ -22,8 +22,8 @@ pub record Core : Type 0 where
 
 -- the memory of a panel with that core, those counters and those arrays
 abbrev pub packed : Core → Counters
-    → (held known awaiting clocks operations contexts order stack registers saved responses settled : List ℕ) → State
-packed core counters held known awaiting clocks operations contexts order stack registers saved responses settled = record {
+    → (held known awaiting clocks askings contexts order stack registers saved responses settled : List ℕ) → State
+packed core counters held known awaiting clocks askings contexts order stack registers saved responses settled = record {
   panels = core .panels;
   own = core .own;
   events = core .events;
@@ -38,7 +38,7 @@ packed core counters held known awaiting clocks operations contexts order stack 
   known = setOf known;
   awaiting = setOf awaiting;
   clocks = clocks;
-  operations = operations;
+  askings = askings;
   contexts = contexts;
   order = order;
   stack = stack;

@@ -13,12 +13,12 @@ use Rattle.numbers.specs.internal.Slots.{numberOf}
 use Rattle.request.specs.Operations.{noOperation}
 use Rattle.sets.specs.Sets.{member}
 use Rattle.registers.specs.declared.Saved.{Saved}
-use Rattle.registers.specs.Effect.{response}
+use Rattle.effects.specs.Effect.{response}
 use Rattle.registers.specs.Rollback.{savedOf, savedIn}
-use Rattle.registers.specs.Replay.{replay}
+use Rattle.effects.specs.Replay.{replay}
 use Rattle.lists.specs.Lists.{one, count}
 use Rattle.lists.specs.Places.{All}
-use Rattle.slots.specs.Slots.{IsSlot}
+use Rattle.ordering.specs.Slots.{IsSlot}
 use Rattle.slots.specs.Marks.{Marks}
 use Rattle.store.specs.Requests.{requestAt, Long}
 use Rattle.creek.specs.Plan.{Plan, lastEvent, lastClock}
@@ -33,7 +33,7 @@ use Rattle.replica.specs.State.{State}
 
 -- the requests at those slots
 abbrev pub requestsAt : State → List ℕ → List Request
-requestsAt q slots = map (requestAt (q .clocks) (q .operations) (q .contexts)) slots
+requestsAt q slots = map (requestAt (q .clocks) (q .askings) (q .contexts)) slots
 
 -- ---- the map
 
@@ -97,7 +97,7 @@ pub record Counts (q : State) : Type 0 where
 
 -- each array is as long as its type says
 pub record Lengths (q : State) : Type 0 where
-  pub requests : Long (q .clocks) (q .operations) (q .contexts)
+  pub requests : Long (q .clocks) (q .askings) (q .contexts)
   pub order : length (q .order) ≡ mostRequests
   pub stack : length (q .stack) ≡ mostRequests
   pub saved : length (q .saved) ≡ mostRequests

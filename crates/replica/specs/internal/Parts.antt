@@ -49,7 +49,7 @@ standing panels own committed p = record {
   known = p .known;
   awaiting = p .awaiting;
   clocks = p .clocks;
-  operations = p .operations;
+  askings = p .askings;
   contexts = p .contexts;
   order = p .order;
   stack = p .stack;
@@ -63,8 +63,8 @@ standing panels own committed p = record {
 
 -- fresh left those numbers and arrays, and returned r
 abbrev pub openedBy : (committed ordered executed stacked commits clock panels events : ℕ)
-    (held known awaiting clocks operations contexts order stack registers saved responses settled : List ℕ) → Opening → Opened
-openedBy committed ordered executed stacked commits clock panels events held known awaiting clocks operations contexts order stack
+    (held known awaiting clocks askings contexts order stack registers saved responses settled : List ℕ) → Opening → Opened
+openedBy committed ordered executed stacked commits clock panels events held known awaiting clocks askings contexts order stack
     registers saved responses settled r = record {
       refusal = r .refusal;
       state = record {
@@ -82,7 +82,7 @@ openedBy committed ordered executed stacked commits clock panels events held kno
         known = setOf known;
         awaiting = setOf awaiting;
         clocks = clocks;
-        operations = operations;
+        askings = askings;
         contexts = contexts;
         order = order;
         stack = stack;
@@ -112,7 +112,7 @@ withNumbers committed ordered executed stacked commits counters p = record {
   known = p .known;
   awaiting = p .awaiting;
   clocks = p .clocks;
-  operations = p .operations;
+  askings = p .askings;
   contexts = p .contexts;
   order = p .order;
   stack = p .stack;
@@ -146,14 +146,14 @@ pub record RegisterKept (registers : List ℕ) (k : ℕ) (r : RegisterValue) : T
   pub shown : (p : State) → Inv p → p .registers ≡ registers → RegisterShown p k r
 
 -- a panel with so many in the order, and the parts that the request at a place is read from
-abbrev pub placeParts : ℕ → (clocks operations contexts order : List ℕ) → State → State
-placeParts ordered clocks operations contexts order p =
-    packed (withOrdering (coreIn p) ordered) (p .counters) (p .held .words) (p .known .words) (p .awaiting .words) clocks operations contexts order
+abbrev pub placeParts : ℕ → (clocks askings contexts order : List ℕ) → State → State
+placeParts ordered clocks askings contexts order p =
+    packed (withOrdering (coreIn p) ordered) (p .counters) (p .held .words) (p .known .words) (p .awaiting .words) clocks askings contexts order
     (p .stack) (p .registers) (p .saved) (p .responses) (p .settled .words)
 
-abbrev pub PlaceAsks : ℕ → (clocks operations contexts order : List ℕ) → Type 0
-PlaceAsks ordered clocks operations contexts order = Asks (placeParts ordered clocks operations contexts order)
+abbrev pub PlaceAsks : ℕ → (clocks askings contexts order : List ℕ) → Type 0
+PlaceAsks ordered clocks askings contexts order = Asks (placeParts ordered clocks askings contexts order)
 
-pub record PlaceKept (ordered : ℕ) (clocks operations contexts order : List ℕ) (place : ℕ) (r : PlacedRequest) : Type 0 where
-  pub shown : (p : State) → Inv (placeParts ordered clocks operations contexts order p)
-      → PlaceShown (placeParts ordered clocks operations contexts order p) place r
+pub record PlaceKept (ordered : ℕ) (clocks askings contexts order : List ℕ) (place : ℕ) (r : PlacedRequest) : Type 0 where
+  pub shown : (p : State) → Inv (placeParts ordered clocks askings contexts order p)
+      → PlaceShown (placeParts ordered clocks askings contexts order p) place r

@@ -25,8 +25,8 @@ WordsLent = Both (RefT (List ℕ)) (RefT (List ℕ))
 
 -- the memory of a panel of that shop and own number, where it is passed
 abbrev pub wholeNow : ℕ → PanelNo → (committed ordered executed stacked commits clock events undos executions : NumberNow)
-    (held known awaiting clocks operations contexts order stack registers saved responses settled : WordsNow) → State
-wholeNow panels own committed ordered executed stacked commits clock events undos executions held known awaiting clocks operations contexts
+    (held known awaiting clocks askings contexts order stack registers saved responses settled : WordsNow) → State
+wholeNow panels own committed ordered executed stacked commits clock events undos executions held known awaiting clocks askings contexts
     order stack registers saved responses settled = record {
       panels = panels;
       own = own;
@@ -42,7 +42,7 @@ wholeNow panels own committed ordered executed stacked commits clock events undo
       known = setOf (known .now);
       awaiting = setOf (awaiting .now);
       clocks = clocks .now;
-      operations = operations .now;
+      askings = askings .now;
       contexts = contexts .now;
       order = order .now;
       stack = stack .now;
@@ -54,17 +54,17 @@ wholeNow panels own committed ordered executed stacked commits clock events undo
 
 -- the same at a function's entry, and at its exit
 abbrev pub wholeEntry : ℕ → PanelNo → (committed ordered executed stacked commits clock events undos executions : NumberLent)
-    (held known awaiting clocks operations contexts order stack registers saved responses settled : WordsLent) → State
-wholeEntry panels own committed ordered executed stacked commits clock events undos executions held known awaiting clocks operations contexts
+    (held known awaiting clocks askings contexts order stack registers saved responses settled : WordsLent) → State
+wholeEntry panels own committed ordered executed stacked commits clock events undos executions held known awaiting clocks askings contexts
     order stack registers saved responses settled =
     wholeNow panels own (committed .entry) (ordered .entry) (executed .entry) (stacked .entry) (commits .entry) (clock .entry)
-    (events .entry) (undos .entry) (executions .entry) (held .entry) (known .entry) (awaiting .entry) (clocks .entry) (operations .entry)
+    (events .entry) (undos .entry) (executions .entry) (held .entry) (known .entry) (awaiting .entry) (clocks .entry) (askings .entry)
     (contexts .entry) (order .entry) (stack .entry) (registers .entry) (saved .entry) (responses .entry) (settled .entry)
 
 abbrev pub wholeExit : ℕ → PanelNo → (committed ordered executed stacked commits clock events undos executions : NumberLent)
-    (held known awaiting clocks operations contexts order stack registers saved responses settled : WordsLent) → State
-wholeExit panels own committed ordered executed stacked commits clock events undos executions held known awaiting clocks operations contexts
+    (held known awaiting clocks askings contexts order stack registers saved responses settled : WordsLent) → State
+wholeExit panels own committed ordered executed stacked commits clock events undos executions held known awaiting clocks askings contexts
     order stack registers saved responses settled =
     wholeNow panels own (committed .exit) (ordered .exit) (executed .exit) (stacked .exit) (commits .exit) (clock .exit) (events .exit)
-    (undos .exit) (executions .exit) (held .exit) (known .exit) (awaiting .exit) (clocks .exit) (operations .exit) (contexts .exit)
+    (undos .exit) (executions .exit) (held .exit) (known .exit) (awaiting .exit) (clocks .exit) (askings .exit) (contexts .exit)
     (order .exit) (stack .exit) (registers .exit) (saved .exit) (responses .exit) (settled .exit)

@@ -13,7 +13,7 @@ use Rattle.settling.proofs.commit.Tie as tie
 abbrev lent : tie.Start → State → State
 lent a =
     commitParts (a .args .panels) (a .args .ordered) (lentNow (a .args .committed) (a .args .executed) (a .args .commits) (a .args .held)
-    (a .args .known) (a .args .awaiting) (a .args .clocks) (a .args .operations) (a .args .contexts) (a .args .order) (a .args .stack)
+    (a .args .known) (a .args .awaiting) (a .args .clocks) (a .args .askings) (a .args .contexts) (a .args .order) (a .args .stack)
     (a .args .responses) (a .args .settled))
 
 early-refusal-requires : tie.Need-early-refusal-requires

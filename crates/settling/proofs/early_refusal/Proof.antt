@@ -27,7 +27,7 @@ here c = ap not (sym (c .before .member .ensures)) ∙ c .if2 .left
 
 -- the strength that is read is that of what is asked for at the number's slot
 strength : (c : tie.After-asked-at) → let a = start (c .before .before) in
-    c .asked-at .result .strong ≡ askedIn (getD (a .args .operations .now) (slotOf (a .args .n)) 0) .strong
+    c .asked-at .result .strong ≡ askedIn (getD (a .args .askings .now) (slotOf (a .args .n)) 0) .strong
 strength c = ap (λ (x : Asked). x .strong) (c .asked-at .ensures) ∙ rw (c .before .slot-of .ensures)
 
 known : (c : tie.After-member2) → let a = start (c .before .before .before .before .before) in

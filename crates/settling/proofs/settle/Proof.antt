@@ -4,7 +4,7 @@ use native.Mathlib.Omega.{arith}
 use mathlib.Core.Path.{_≡_, refl, sym, ap, subst, _∙_}
 use mathlib.Core.Bool.{Bool, _&&_}
 use lib.Dec.{leb}
-use Rattle.slots.specs.Slots.{IsSlot}
+use Rattle.ordering.specs.Slots.{IsSlot}
 use Rattle.slots.specs.Settlement.{Settled}
 use Rattle.slots.specs.Marks.{Marked}
 use Rattle.numbers.specs.internal.Slots.{slotOf}
@@ -64,7 +64,7 @@ joined c = c .before .before .before
 abbrev lent : tie.Start → State → State
 lent a =
     commitParts (a .args .panels) (a .args .ordered) (lentNow (a .args .committed) (a .args .executed) (a .args .commits) (a .args .held)
-    (a .args .known) (a .args .awaiting) (a .args .clocks) (a .args .operations) (a .args .contexts) (a .args .order) (a .args .stack)
+    (a .args .known) (a .args .awaiting) (a .args .clocks) (a .args .askings) (a .args .contexts) (a .args .order) (a .args .stack)
     (a .args .responses) (a .args .settled))
 
 -- ---- what is known there

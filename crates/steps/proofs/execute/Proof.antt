@@ -19,7 +19,7 @@ tested c = c .before .before .before .before .before .before .before .before
 -- what is lent
 abbrev lent : tie.Start → ExecuteLent
 lent a =
-    executeNow (a .args .committed) (a .args .ordered) (a .args .executed) (a .args .stacked) (a .args .awaiting) (a .args .operations)
+    executeNow (a .args .committed) (a .args .ordered) (a .args .executed) (a .args .stacked) (a .args .awaiting) (a .args .askings)
     (a .args .order) (a .args .stack) (a .args .registers) (a .args .saved) (a .args .responses)
 
 idle : (c : tie.Else1) → lent (start c) .executed ≡ lent (start c) .stacked

@@ -9,7 +9,7 @@ use Rattle.steps.proofs.undo.Tie as tie
 
 -- what is lent
 abbrev lent : tie.Start → UndoLent
-lent a = undoNow (a .args .executed) (a .args .stacked) (a .args .operations) (a .args .stack) (a .args .registers) (a .args .saved)
+lent a = undoNow (a .args .executed) (a .args .stacked) (a .args .askings) (a .args .stack) (a .args .registers) (a .args .saved)
 
 due : (c : tie.Else1) → let l = lent (c .before .before) in l .executed < l .stacked
 due c = omega (arith, c .before .before .pre .invariant .counts, c .if1 .left)

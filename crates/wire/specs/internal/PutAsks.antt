@@ -7,7 +7,7 @@ use Rattle.wire.specs.declared.Kind.{Kind}
 use Rattle.wire.specs.declared.Message.{Message}
 use Rattle.wire.specs.Message.{kindOf, sizeOf, said}
 
--- k and n are the kind and the size of the held message m, for which out has room
+-- k and n are the kind and the size of the message m, for which out has room
 pub record PutAsks (m : Message) (k : Kind) (n : ℕ) (out : List ℕ) : Type 0 where
   pub kind : k ≡ kindOf (said m)
   pub size : n ≡ sizeOf (said m)

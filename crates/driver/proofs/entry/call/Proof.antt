@@ -41,7 +41,7 @@ abbrev panel : tie.Start → State
 panel a =
     wholeNow (a .args .panels) (a .args .own) (a .args .committed) (a .args .ordered) (a .args .executed) (a .args .stacked)
     (a .args .commits) (a .args .clock) (a .args .events) (a .args .undos) (a .args .executions) (a .args .held) (a .args .known)
-    (a .args .awaiting) (a .args .clocks) (a .args .operations) (a .args .contexts) (a .args .order) (a .args .stack)
+    (a .args .awaiting) (a .args .clocks) (a .args .askings) (a .args .contexts) (a .args .order) (a .args .stack)
     (a .args .registers) (a .args .saved) (a .args .responses) (a .args .settled)
 
 shared-slice-read-tag : tie.Need-shared-slice-read-tag

@@ -4,7 +4,7 @@ use native.Mathlib.Omega.{arith}
 use Rattle.wire.specs.declared.Kind.{Kind}
 use Rattle.wire.specs.declared.Kind.the-variants.{Weak, Strong, Settlement}
 use Rattle.wire.specs.declared.HeadAnswer.the-variants.{Good}
-use Rattle.wire.specs.Message.{held}
+use Rattle.wire.specs.Message.{asMessage}
 use Rattle.wire.specs.Head.{GoodHead}
 use Rattle.wire.proofs.HeadLaws.{weak-inside, strong-inside, settlement-inside, weak-message, strong-message, settlement-message}
 use borrow.Author.Needs.{needs}
@@ -44,21 +44,21 @@ bare-requires : tie.Need-bare-requires
 bare-requires c κs = search needs
 
 returns : tie.Need-returns
-unfolding held
+unfolding asMessage
 returns c =
     let told = c .before .before .enum-told .given .1 in
     let makes = weak-message _ _ (good (c .before .before .before .before) Weak told) in
     rw (told, makes, c .request-at .ensures, c .before .empty .ensures)
 
 returns-2 : tie.Need-returns-2
-unfolding held
+unfolding asMessage
 returns-2 c =
     let told = c .before .before .enum-told2 .given .1 in
     let makes = strong-message _ _ (good (c .before .before .before .before) Strong told) in
     rw (told, makes, c .request-at2 .ensures, c .before .context-at .ensures)
 
 returns-3 : tie.Need-returns-3
-unfolding held
+unfolding asMessage
 returns-3 c =
     let n = c .before in
     let told = n .before .enum-told3 .given .1 in

@@ -11,7 +11,7 @@ use Rattle.replica.proofs.showing.at_place.Tie as tie
 
 abbrev lent : tie.Start → State
 lent a =
-    placeParts (a .args .ordered) (a .args .clocks .now) (a .args .operations .now) (a .args .contexts .now) (a .args .order .now) (a .pre .panel)
+    placeParts (a .args .ordered) (a .args .clocks .now) (a .args .askings .now) (a .args .contexts .now) (a .args .order .now) (a .pre .panel)
 
 inside : (c : tie.Else1) → Within (lent (c .before)) (c .before .pre .invariant) (c .before .args .place)
 inside c = within (lent (c .before)) (c .before .pre .invariant) (c .before .args .place) (c .if1 .left)

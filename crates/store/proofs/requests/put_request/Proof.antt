@@ -14,11 +14,11 @@ mul-clocks c = search needs
 element-write-clocks : tie.Need-element-write-clocks
 element-write-clocks c = search needs
 
-mul-operations : tie.Need-mul-operations
-mul-operations c = search needs
+mul-askings : tie.Need-mul-askings
+mul-askings c = search needs
 
-element-write-operations : tie.Need-element-write-operations
-element-write-operations c = search needs
+element-write-askings : tie.Need-element-write-askings
+element-write-askings c = search needs
 
 put-words-requires : tie.Need-put-words-requires
 put-words-requires c κs = search needs
@@ -35,7 +35,7 @@ put-request-spec =
     word-of-requires
     mul-clocks
     element-write-clocks
-    mul-operations
-    element-write-operations
+    mul-askings
+    element-write-askings
     put-words-requires
     returns)

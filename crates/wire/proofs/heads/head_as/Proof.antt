@@ -4,7 +4,7 @@ use mathlib.Core.Path.{_≡_, sym, ap, _∙_}
 use native.Mathlib.Nat.{add-zero}
 use native.Mathlib.Omega.{arith}
 use Rattle.request.specs.Refusal as refusal
-use Rattle.wire.specs.Layout.{decode}
+use Rattle.fields.specs.Widths.{decode}
 use Rattle.wire.specs.Reader.{refused, refusalAs, lengthAt}
 use Rattle.wire.specs.Head.{headOf}
 use Rattle.wire.proofs.ReaderLaws.{refused-as, read-as}

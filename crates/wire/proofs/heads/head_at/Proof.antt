@@ -4,7 +4,8 @@ use mathlib.Core.Path.{_≡_, sym, ap, _∙_}
 use mathlib.Core.Option.{Option, none, some}
 use native.Mathlib.Omega.{arith}
 use Rattle.wire.specs.declared.Kind.{Kind}
-use Rattle.wire.specs.Layout.{kindWith, told, decode}
+use Rattle.wire.specs.Layout.{kindWith, told}
+use Rattle.fields.specs.Widths.{decode}
 use Rattle.wire.specs.Reader.{kindAt, readWith, readAt}
 use Rattle.wire.specs.Head.{headOf}
 use Rattle.wire.proofs.LayoutLaws.{told-known, told-unknown}

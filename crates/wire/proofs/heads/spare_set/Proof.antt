@@ -5,7 +5,8 @@ use native.Mathlib.Omega.{arith}
 use Rattle.wire.specs.declared.Kind.{Kind}
 use Rattle.wire.specs.declared.Kind.the-variants.{Weak, Strong, Settlement}
 use Rattle.wire.specs.Integers.{integerAt}
-use Rattle.wire.specs.Layout.{spareField, leastSize, widthsWith, layout, decode}
+use Rattle.fields.specs.Widths.{spareField, decode}
+use Rattle.wire.specs.Layout.{leastSize, widthsWith, layout}
 use Rattle.wire.specs.Reader.{spareSet, fieldsAt}
 use Rattle.wire.proofs.ReaderLaws.{one-spare}
 use borrow.Author.Needs.{needs}

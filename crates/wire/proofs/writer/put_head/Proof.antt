@@ -1,6 +1,6 @@
 -- `writer::put_head` meets its contract, field by field.
 use native.Mathlib.Omega.{arith}
-use Rattle.parts.proofs.WidthLaws.{field-then, field-last}
+use Rattle.fields.proofs.WidthLaws.{field-then, field-last}
 use borrow.Author.Needs.{needs}
 use Rattle.wire.proofs.writer.put_head.Statement.{statement}
 use Rattle.wire.proofs.writer.put_head.Tie as tie

@@ -8,7 +8,7 @@ use Rattle.wire.specs.declared.Kind.the-variants.{Weak, Strong}
 use Rattle.wire.specs.Layout.{leastSize, widthsWith, layout}
 use Rattle.wire.specs.Message.{said}
 use Rattle.wire.proofs.KindLaws.{kind-laws}
-use Rattle.wire.proofs.HeldLaws.{runless-size}
+use Rattle.wire.proofs.MessageLaws.{runless-size}
 use Rattle.wire.proofs.WriterLaws.{settlement-put, weak-put, strong-put}
 use borrow.Author.Needs.{needs}
 use Rattle.wire.proofs.writer.put_message.Statement.{statement}

@@ -4,7 +4,7 @@ use Rattle.request.specs.Refusal as refusal
 use mathlib.Core.Bool.{false}
 use mathlib.Core.Path.{_≡_, sym, ap, _∙_}
 use Rattle.wire.specs.Message.{Fits, said, weakWithContext}
-use Rattle.wire.proofs.HeldLaws.{Held, said-fits, array-small}
+use Rattle.wire.proofs.MessageLaws.{Held, said-fits, array-small}
 use Rattle.wire.proofs.WriterLaws.{context-refused, room-refused, written, bytes-put}
 use borrow.Author.Needs.{needs}
 use Rattle.wire.proofs.writer.write.Statement.{statement}
