@@ -3,7 +3,7 @@
 //
 // Each contract gives the result by the definition of the same name in `specs/`; their laws are in `proofs/`.
 ghost use mathlib.Core.Path.{_≡_};
-ghost use Rattle.numbers.specs.Numbers.{noNumber, sameNumber, badNumber};
+ghost use Rattle.numbers.specs.Numbers.{noNumber, badNumber};
 ghost use Rattle.numbers.specs.internal.Slots.{slotOf, numberOf};
 
 // A panel of the shop, counted from 0.
@@ -39,13 +39,6 @@ pub fn none() -> Number
         panel: PanelNo(0),
         event: EventNo(0),
     }
-}
-
-// Whether a and b are one number.
-pub fn same(a: Number, b: Number) -> bool
-    ensures { λ r. ⌜ r ≡ sameNumber a b ⌝ }
-{
-    (a.panel.0 == b.panel.0) & (a.event.0 == b.event.0)
 }
 
 // The test behind refusal 2 in a shop of `panels` panels.

@@ -1,6 +1,6 @@
 // A request and its parts, no field of which is wider than its field in a bus message.
 //
-// Here are the types and what concerns a whole request: zeros, equality, and the test behind refusal 21. What a request asks for is in
+// Here are the types, and the request of zeros. What a request asks for is in
 // `asks`, operations in `operations`, the refusal numbers in `refusal`; clock order is `Order` of `specs/`; numbers and sets of numbers are crates of
 // their own.
 // Each contract gives the result by the definition of the same name in `specs/`; their laws are in `proofs/`.
@@ -12,7 +12,7 @@ use numbers::Clock;
 use numbers::Number;
 use sets::Context;
 ghost use mathlib.Core.Path.{_≡_};
-ghost use Rattle.request.specs.Request.{bareRequest, noRequest, sameRequest, badContext};
+ghost use Rattle.request.specs.Request.{bareRequest, noRequest};
 
 // An operation on register r; under a move, from register r to register q; under a claim of registers together, on r to q.
 pub struct Operation {
@@ -58,24 +58,4 @@ pub fn bare(n: Number) -> Request
         asked: asks::none(),
         context: sets::empty(),
     }
-}
-
-// Whether all fields of a and b are equal.
-pub fn same(a: Request, b: Request) -> bool
-    ensures { λ r. ⌜ r ≡ sameRequest a b ⌝ }
-{
-    let numbers = numbers::same(a.number, b.number);
-    let asked = asks::same(a.asked, b.asked);
-    let contexts = sets::same(a.context, b.context);
-    numbers & (a.clock.0 == b.clock.0) & asked & contexts
-}
-
-// The test behind refusal 21 in a shop of `panels` panels.
-pub fn bad_context(panels: u8, x: Request) -> bool
-    ensures { λ r. ⌜ r ≡ badContext panels x ⌝ }
-{
-    let empty = sets::is_empty(x.context);
-    let itself = sets::member(x.context, x.number);
-    let outside = sets::names_from(x.context, panels);
-    (!x.asked.strong & !empty) | itself | outside
 }

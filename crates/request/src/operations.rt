@@ -1,7 +1,7 @@
 // Operations: their codes, the one of zeros, equality, and what makes one bad.
 use super::Operation;
 ghost use mathlib.Core.Path.{_≡_};
-ghost use Rattle.request.specs.Operations.{noOperation, span, sameOperation, badOperation};
+ghost use Rattle.request.specs.Operations.{span, sameOperation, badOperation};
 
 pub const READ: u8 = 1;
 
@@ -36,18 +36,6 @@ fn span(o: Operation) -> usize
         return 0;
     }
     (o.q - o.r) as usize + 1
-}
-
-// The operation of zeros, which stands where there is none.
-pub fn none() -> Operation
-    ensures { λ o. ⌜ o ≡ noOperation ⌝ }
-{
-    Operation {
-        code: 0,
-        r: 0,
-        q: 0,
-        amount: 0,
-    }
 }
 
 // Whether all fields of a and b are equal.

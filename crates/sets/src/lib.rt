@@ -1,12 +1,11 @@
-// Sets of numbers as eight words, each function working by words. No set holds a number with a panel over 7 or an event outside 1 to 64:
-// asked for one, `member` says no.
+// Sets of numbers as eight words, each function working by words. No set holds a number with a panel over 7 or an event outside 1 to 64.
 //
 // Each contract gives the result by the definition of the same name in `specs/`; their laws are in `proofs/`.
 use numbers::EventNo;
 use numbers::Number;
 use numbers::PanelNo;
 ghost use mathlib.Core.Path.{_≡_};
-ghost use Rattle.sets.specs.Sets.{sameContext, emptySet, isEmpty, namesFrom, member as memberOf};
+ghost use Rattle.sets.specs.Sets.{emptySet, isEmpty, namesFrom};
 ghost use Rattle.sets.specs.Sets.{difference as differenceOf, subset, lowest as lowestOf, lowestLacking};
 
 // A set of numbers: word p is panel p's, and bit e - 1 of it is event e's.
@@ -23,20 +22,6 @@ pub fn empty() -> Context
     ensures { λ r. ⌜ r ≡ emptySet ⌝ }
 {
     Context { words: [0u64; 8] }
-}
-
-// Whether a and b have the same words.
-pub fn same(a: Context, b: Context) -> bool
-    ensures { λ r. ⌜ r ≡ sameContext a b ⌝ }
-{
-    let mut i = 0;
-    while i < WORDS {
-        if a.words[i] != b.words[i] {
-            return false;
-        }
-        i += 1;
-    }
-    true
 }
 
 // Whether s holds a number of a panel not below `panels`.
@@ -58,19 +43,6 @@ pub fn is_empty(s: Context) -> bool
     ensures { λ r. ⌜ r ≡ isEmpty s ⌝ }
 {
     !names_from(s, 0)
-}
-
-// Whether n is in s.
-pub fn member(s: Context, n: Number) -> bool
-    ensures { λ r. ⌜ r ≡ memberOf s n ⌝ }
-{
-    if numbers::bad(numbers::MOST_PANELS, n) {
-        return false;
-    }
-    let panel = n.panel.0 as usize;
-    let bit = (n.event.0 - 1) as u64;
-    let word = s.words[panel];
-    (word >> bit) % 2 == 1
 }
 
 // The numbers that s has and t lacks.
