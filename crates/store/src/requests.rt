@@ -148,15 +148,16 @@ fn word_of(a: Asked) -> u64
     code + UNIT_R * r + UNIT_Q * q + UNIT_STRENGTH * strength + UNIT_AMOUNT * amount
 }
 
-// Puts the words of a context at a slot.
+// Puts the words of a context at a slot; they are all read before any is written, by which the compiler moves several at once.
 fn put_words<'a>(contexts: &mut [u64; 4096], slot: usize, words: &'a [u64; 8])
     requires { ⌜ IsSlot slot × (length (now words) ≡ mostPanels) ⌝ }
     ensures { λ _. ⌜ now (contexts .exit) ≡ sets (now (contexts .entry)) (mostPanels * slot) (now (words .entry)) ⌝ }
 {
     let at = WORDS * slot;
+    let read = *words;
     let mut i = 0;
     while i < WORDS {
-        let word = words[i];
+        let word = read[i];
         contexts[at + i] = word;
         i += 1;
     }

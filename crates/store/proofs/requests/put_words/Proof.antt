@@ -12,11 +12,11 @@ use Rattle.store.proofs.requests.put_words.Statement.{statement}
 use Rattle.store.proofs.requests.put_words.Tie as tie
 
 abbrev Inv-loop : tie.InvT-loop
-Inv-loop contexts₀ slot words at i₀ contexts i =
-    (i ≤ mostPanels) × (sets contexts (at + i) (drop i words) ≡ sets contexts₀ at words)
+Inv-loop contexts₀ slot words at read i₀ contexts i =
+    (i ≤ mostPanels) × (sets contexts (at + i) (drop i read) ≡ sets contexts₀ at read)
 
 abbrev μ-loop : tie.MeasureT-loop
-μ-loop contexts₀ slot words at i₀ contexts i = mostPanels - i
+μ-loop contexts₀ slot words at read i₀ contexts i = mostPanels - i
 
 -- the type of the context's array says how many words there are
 count : (c : tie.Start Inv-loop μ-loop) → length (c .args .words .now) ≡ mostPanels
@@ -27,15 +27,16 @@ mul-at c = search needs
 
 loop-holds : tie.Need-loop-holds Inv-loop μ-loop
 loop-holds c =
-    let at = mostPanels * c .args .slot in
+    let a = c .before in
+    let at = mostPanels * a .args .slot in
     let first : at + 0 ≡ at = omega arith in
-    (omega arith, ap (λ (k : ℕ). sets (c .args .contexts .now) k (c .args .words .now)) first)
+    (omega arith, ap (λ (k : ℕ). sets (a .args .contexts .now) k (a .args .words .now)) first)
 
 mul-word : tie.Need-mul-word Inv-loop μ-loop
 mul-word c = search needs
 
-element-copy-out-word : tie.Need-element-copy-out-word Inv-loop μ-loop
-element-copy-out-word c = search needs
+array-read-word : tie.Need-array-read-word Inv-loop μ-loop
+array-read-word c = search needs
 
 add-contexts : tie.Need-add-contexts Inv-loop μ-loop
 add-contexts c = search needs
@@ -54,7 +55,7 @@ loop-less c = search needs
 
 loop-again : tie.Need-loop-again Inv-loop μ-loop
 loop-again c =
-    let v = c .before .before .loop in
+    let v = c .before .loop in
     let a = c .before .before .before in
     let more = store-on (mostPanels * a .args .slot) (v .i) (v .contexts) (a .args .words .now) (omega (arith, count a)) in
     (omega arith, more ∙ v .inv .1)
@@ -62,7 +63,7 @@ loop-again c =
 returns : tie.Need-returns Inv-loop μ-loop
 returns c =
     let v = c .before .loop in
-    let a = c .before .before in
+    let a = c .before .before .before in
     let none : drop (v .i) (a .args .words .now) ≡ [] = drop-of-length-le (a .args .words .now) {i = v .i} (omega (arith, count a)) in
     ap (sets (v .contexts) (mostPanels * a .args .slot + v .i)) (sym none) ∙ v .inv .1
 
@@ -75,7 +76,7 @@ put-words-spec =
     mul-at
     loop-holds
     mul-word
-    element-copy-out-word
+    array-read-word
     add-contexts
     mul-contexts
     element-write-contexts
