@@ -164,7 +164,8 @@ fn enter<'a>(
     requires { ⌜ EnterAsks (lentNow ordered executed held known clocks operations contexts order) slot at
         (requestOf (numberOf slot) clock asked (now words)) ⌝ }
     ensures { λ _. ⌜ EnterKept (lentEntry ordered executed held known clocks operations contexts order) slot at
-        (requestOf (numberOf slot) clock asked (now (words .entry))) (lentExit ordered executed held known clocks operations contexts order) ⌝ }
+        (requestOf (numberOf slot) clock asked (now (words .entry)))
+        (lentExit ordered executed held known clocks operations contexts order) ⌝ }
 {
     let n = *ordered;
     slots::insert_at(order, n, at, slot);
