@@ -112,7 +112,8 @@ fn enter<'a>(
     requires { ⌜ EnterAsks (lentNow ordered executed held known clocks askings contexts order) slot at
         (requestOf (numberOf slot) clock asked (now words)) ⌝ }
     ensures { λ _. ⌜ EnterKept (lentEntry ordered executed held known clocks askings contexts order) slot at
-        (requestOf (numberOf slot) clock asked (now (words .entry))) (lentExit ordered executed held known clocks askings contexts order) ⌝ }
+        (requestOf (numberOf slot) clock asked (now (words .entry)))
+        (lentExit ordered executed held known clocks askings contexts order) ⌝ }
 {
     let n = *ordered;
     ordering::insert_at(order, n, at, slot);

@@ -51,7 +51,8 @@ returns-2 : tie.Need-returns-2
 unfolding badContext
 returns-2 c =
     let itself = c .before in
-    rw (not-false (itself .before .before .before .args .asked .strong) (itself .before .if1 .left), itself .member .ensures, c .names-from2 .ensures)
+    let strong = not-false (itself .before .before .before .args .asked .strong) (itself .before .if1 .left) in
+    rw (strong, itself .member .ensures, c .names-from2 .ensures)
 
 pub bad-context-spec : {M : Type 1} → statement M
 bad-context-spec = tie.close (tie.spec names-from-requires returns member-requires names-from-requires-2 returns-2)

@@ -142,8 +142,8 @@ returns-3 c =
     record {
       kept = λ p inv.
           kept-heard (lent a p) (heard a) inv (judged-new slot) (absent else) _
-          (kept-numbered (number-is slot) (c .enter .ensures) .kept (standing (a .args .panels) (a .args .own) (a .args .committed) p) inv (enters else p inv) (at .place .ensures)
-          (p .awaiting .words) (p .events) (p .clock)) _ refl;
+          (kept-numbered (number-is slot) (c .enter .ensures) .kept (standing (a .args .panels) (a .args .own) (a .args .committed) p)
+          inv (enters else p inv) (at .place .ensures) (p .awaiting .words) (p .events) (p .clock)) _ refl;
     }
 
 pub deliver-spec : {M : Type 1} → statement M

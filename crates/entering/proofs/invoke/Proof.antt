@@ -159,7 +159,8 @@ returns-2 c =
           (raised .at-least .ensures) _ (slot .slot-of .ensures) _ (at .place .ensures) _ (context .context-for .ensures)
           (asRequest (lent a p) (raised .at-least .result) (context .context-for .result)) refl _ _
           (waits .join-at .ensures ∙ ap (join (setOf (a .args .awaiting .now))) (number-is context))
-          (kept-numbered (number-is context) (entered .enter .ensures) .kept (lent a p) inv (enters context p inv) (at .place .ensures) _ _ _) _
+          (kept-numbered (number-is context) (entered .enter .ensures) .kept (lent a p) inv (enters context p inv) (at .place .ensures)
+          _ _ _) _
           (c .spread .ensures ∙ ap (λ (x : Request). spread x) (c .before .request-for .ensures));
     }
 

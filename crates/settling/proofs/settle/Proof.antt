@@ -78,13 +78,16 @@ held-at : (c : tie.After-slot-of) (p : State) → Inv (lent (start c) p) → Hel
 held-at c p inv = judged-at c p inv .held-at
 
 slot-of-is : (c : tie.After-slot-of) → IsSlot (c .slot-of .result)
-slot-of-is c = let a = start c in held-slot {p = lent a (a .pre .0 .panel)} (a .pre .0 .invariant) (held-at c (a .pre .0 .panel) (a .pre .0 .invariant))
+slot-of-is c =
+    let asks = start c .pre .0 in
+    held-slot {p = lent (start c) (asks .panel)} (asks .invariant) (held-at c (asks .panel) (asks .invariant))
 
 -- the answer by the context that is kept at the slot
 answer-is : (c : tie.After-waiting-reply)
     → let slot = c .before .before .before in
     let a = start slot in
-    replyAnswer (c .waiting-reply .result) ≡ waitingAnswer (contextAt (a .args .contexts .now) (slot .slot-of .result)) (setOf (a .args .known .now))
+    replyAnswer (c .waiting-reply .result)
+    ≡ waitingAnswer (contextAt (a .args .contexts .now) (slot .slot-of .result)) (setOf (a .args .known .now))
 answer-is c = c .waiting-reply .ensures ∙ rw (c .before .before .context-at .ensures)
 
 -- past the test it is to be settled

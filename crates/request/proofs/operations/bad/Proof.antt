@@ -8,7 +8,8 @@ use borrow.Author.Tests.{leb-true, eqb-true, le-leb, lt-leb, eq-eqb, ne-eqb}
 use borrow.Author.Needs.{needs}
 use Rattle.lists.proofs.BoolLaws.{neither-true, same-test}
 use Rattle.request.specs.declared.Operation.{Operation}
-use Rattle.request.specs.Operations.{codeRead, codeClaim, codeMove, codeClaimAll, lastCode, lastRegister, mostClaimed, span, badOperation}
+use Rattle.request.specs.Operations.{codeRead, codeClaim, codeMove, codeClaimAll, lastCode}
+use Rattle.request.specs.Operations.{lastRegister, mostClaimed, span, badOperation}
 use Rattle.request.proofs.operations.bad.Statement.{statement}
 use Rattle.request.proofs.operations.bad.Tie as tie
 
@@ -17,7 +18,7 @@ met-behind : (a b c : Bool) → b || c ≡ true → a || b || c ≡ true
 met-behind true b c met = refl
 met-behind false b c met = met
 
--- seven tests of which the first is one way, the last of more tests the other, and no other is met
+-- eight tests of which only the first and the last may be met: the first where b is false, the last only where it is true
 first-or-last : (b x y z : Bool)
     → not b || x || y || z ≡ not b || false || false || false || false || false || false || b && (x || y || z)
 first-or-last true x y z = refl
@@ -93,7 +94,8 @@ span-requires c κs = search needs
 returns-4 : tie.Need-returns-4
 returns-4 c =
     let else = c .before in
-    rw (c .span .ensures) (bad-together (else .before .before .before .args .o) (else .before .before .if1 .left) (else .before .if2 .left) (else .if3 .left))
+    let inside = else .before .before in
+    rw (c .span .ensures) (bad-together (inside .before .args .o) (inside .if1 .left) (else .before .if2 .left) (else .if3 .left))
 
 pub bad-spec : {M : Type 1} → statement M
 bad-spec = tie.close (tie.spec returns returns-2 returns-3 span-requires returns-4)
