@@ -108,7 +108,7 @@ pub(crate) fn call(
     if tag == calls::INVOKE {
         let request = message.request;
         let asked = encoding::invocation_of(request);
-        return entering::invoke(
+        return invoking::invoke(
             own,
             *committed,
             ordered,
@@ -179,7 +179,7 @@ fn take<'a>(
     match subject {
         Subject::Request => {
             let count = *committed;
-            let refusal = entering::deliver(
+            let refusal = delivering::deliver(
                 panels,
                 own,
                 count,

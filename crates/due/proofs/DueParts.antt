@@ -13,7 +13,8 @@ use Rattle.replica.specs.internal.Cores.{coreIn}
 use Rattle.replica.specs.internal.Parts.{withCounters}
 use Rattle.replica.specs.internal.Model.{Inv}
 use Rattle.steps.specs.Lent.{UndoLent, undoWith, undoChanged, undoing, ExecuteLent, executeChanged, executing, withUndos, withExecutions}
-use Rattle.steps.specs.Steps.{UndoAsks, TopAsks, TakenOff, ExecuteAsks}
+use Rattle.steps.specs.Steps.{UndoAsks, ExecuteAsks}
+use Rattle.board.specs.Board.{TopAsks, TakenOff}
 use Rattle.due.specs.declared.DueSteps.{DueSteps}
 use Rattle.due.specs.Due.{DueOutcome, noReply, mostReplies, RunDue}
 use Rattle.due.specs.internal.Parts.{ranTo, RolledBack, ExecutedAll, AllUndone, AllExecuted, DueKept}

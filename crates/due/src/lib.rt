@@ -71,7 +71,7 @@ fn roll_back_all<'a>(
     let mut left = *stacked;
     while executed < left {
         left -= 1;
-        steps::take_off(askings, stack, registers, saved, left);
+        board::take_off(askings, stack, registers, saved, left);
     }
     *stacked = left;
 }
@@ -108,7 +108,7 @@ fn execute_all<'a>(
         let before = registers::save(registers, operation);
         let word = registers::saved_word(before);
         let response = executing::execute_due(registers, operation);
-        let next = steps::put_on(
+        let next = board::put_on(
             committed,
             awaiting,
             stack,

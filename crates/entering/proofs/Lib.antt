@@ -1,5 +1,3 @@
--- Laws of a request that enters, and of the calls that bring one.
+-- Laws of a request that enters.
 pub mod EnteringStates
 pub mod EnteringLaws
-pub mod DeliveringLaws
-pub mod InvokingLaws

@@ -1,57 +1,26 @@
--- The calls that bring a request: what is asked before it enters, what the state is then, and what the calls ask and promise over the parts
--- of a panel that they are lent.
+-- A request enters: what is asked before, what the state is then, and what that asks and promises over the parts of a panel that are lent.
 use Prim.Native.Nat.{ℕ, _+_, _<_}
 use mathlib.Core.Path.{_≡_}
-use mathlib.Core.Bool.{Bool, true, false, cond}
+use mathlib.Core.Bool.{true, false}
 use mathlib.Core.List.{List}
 use lib.ListN.{length}
 use denote.Ref.{RefT}
 use denote.Triple.Both.{Both}
 use Rattle.numbers.specs.declared.Clock.{Clock}
 use Rattle.numbers.specs.declared.Number.{Number}
-use Rattle.numbers.specs.declared.PanelNo.{PanelNo}
-use Rattle.numbers.specs.Numbers.{mostPanels, clockReading, noNumber}
+use Rattle.numbers.specs.Numbers.{mostPanels}
 use Rattle.numbers.specs.internal.Slots.{GoodNumber, slotOf}
 use Rattle.sets.specs.declared.Context.{Context}
-use Rattle.sets.specs.Sets.{setOf, emptySet, member}
+use Rattle.sets.specs.Sets.{setOf, member}
 use Rattle.request.specs.declared.Request.{Request}
-use Rattle.ordering.specs.Slots.{without}
 use Rattle.ordering.specs.Insertion.{placeFor}
-use Rattle.creek.specs.declared.Answer.{Answer}
-use Rattle.creek.specs.declared.Invocation.{Invocation}
-use Rattle.creek.specs.Plan.{Plan, emptyPlan, entered, lastEvent, lastClock, invokeRefusal, deliverRefusal}
-use Rattle.creek.specs.Book.{invoke, deliver, planned}
-use Rattle.creek.specs.Replies.{refusedWith}
+use Rattle.creek.specs.Plan.{Plan, entered, lastEvent, lastClock}
+use Rattle.creek.specs.Book.{planned}
 use Rattle.counters.specs.Counted.{counted}
 use Rattle.creek.specs.internal.Sound.{Sound, mostRequests}
 use Rattle.replica.specs.State.{State}
-use Rattle.replica.specs.internal.Parts.{Asks, KeptBy, standing}
+use Rattle.replica.specs.internal.Parts.{standing}
 use Rattle.replica.specs.internal.Model.{planOf, bookOf, model, Inv}
-
--- ---- what is asked of a request that is made
-
--- w is the refusal of an invocation by a plan whose last own request had that event
-pub record InvokeRefused (events : ℕ) (i : Invocation) (w : ℕ) : Type 0 where
-  pub word : (a : Plan) → lastEvent a ≡ events → w ≡ invokeRefusal a i
-
--- the context of a request of that strength: where it is strong, the known set without those slots
-abbrev pub contextWithout : Bool → Context → List ℕ → Context
-contextWithout strong known slots = cond strong (without known slots) emptySet
-
--- the request of that number that i asks for, with that context
-abbrev pub requestFor : Number → Invocation → Context → Request
-requestFor n i context = record {
-  number = n;
-  clock = i .clock;
-  asked = i .asked;
-  context = context;
-}
-
--- ---- what is asked of a request that is heard
-
--- its refusal where nothing is held: the tests that come before the one whether its number is
-unfoldable pub judged : ℕ → ℕ → Request → ℕ
-judged panels own x = deliverRefusal (emptyPlan panels own) x
 
 -- ---- what enters, and what the state is then
 
@@ -158,49 +127,3 @@ pub record EnterKept (l : Lent) (slot at : ℕ) (x : Request) (l′ : Lent) : Ty
       → at ≡ placeFor (l .clocks) (l .order) (p .committed) (l .ordered) (x .clock .0) slot
       → (awaiting : List ℕ) (events : ℕ) (clock : Clock)
       → Entered (hearing l p) x (setOf awaiting) events clock (entering l′ awaiting events clock p)
-
--- ---- deliver
-
--- a panel of that shop, of which so many are committed, with those parts
-abbrev pub deliverParts : ℕ → PanelNo → ℕ → Lent → State → State
-deliverParts panels own committed l p = hearing l (standing panels own committed p)
-
--- they are the parts of a panel that came from fresh and the calls, and words of a context
-pub record DeliverAsks (panels : ℕ) (own : PanelNo) (committed : ℕ) (l : Lent) (words : List ℕ) : Type 0 where
-  pub parts : Asks (deliverParts panels own committed l)
-  pub long : length words ≡ mostPanels
-
--- of every such panel: the delivery with that answer was carried out as `creek` says
-abbrev pub DeliverKept : ℕ → PanelNo → ℕ → Lent → Request → Lent → Answer → Type 0
-DeliverKept panels own committed l x l′ a = KeptBy (deliverParts panels own committed l) (deliverParts panels own committed l′) (deliver x) a
-
--- the answer of a delivery with that refusal
-abbrev pub heardAnswer : ℕ → Answer
-heardAnswer w = refusedWith w noNumber
-
--- ---- invoke
-
--- what is lent of the own requests: those who await a reply, the last event and the last clock reading
-pub record OwnLent : Type 0 where
-  pub awaiting : List ℕ
-  pub events : ℕ
-  pub clock : ℕ
-
-abbrev pub ownNow : RefT (List ℕ) → RefT ℕ → RefT ℕ → OwnLent
-ownNow awaiting events clock = record { awaiting = awaiting .now; events = events .now; clock = clock .now }
-
-abbrev pub ownEntry : Both (RefT (List ℕ)) (RefT (List ℕ)) → Both (RefT ℕ) (RefT ℕ) → Both (RefT ℕ) (RefT ℕ) → OwnLent
-ownEntry awaiting events clock = ownNow (awaiting .entry) (events .entry) (clock .entry)
-
-abbrev pub ownExit : Both (RefT (List ℕ)) (RefT (List ℕ)) → Both (RefT ℕ) (RefT ℕ) → Both (RefT ℕ) (RefT ℕ) → OwnLent
-ownExit awaiting events clock = ownNow (awaiting .exit) (events .exit) (clock .exit)
-
--- a panel of that own number, of which so many are committed, with those parts
-abbrev pub invokeParts : PanelNo → ℕ → OwnLent → Lent → State → State
-invokeParts own committed o l p = entering l (o .awaiting) (o .events) (clockReading (o .clock)) (standing (p .panels) own committed p)
-
-abbrev pub InvokeAsks : PanelNo → ℕ → OwnLent → Lent → Type 0
-InvokeAsks own committed o l = Asks (invokeParts own committed o l)
-
-abbrev pub InvokeKept : PanelNo → ℕ → OwnLent → Lent → Invocation → OwnLent → Lent → Answer → Type 0
-InvokeKept own committed o l i o′ l′ a = KeptBy (invokeParts own committed o l) (invokeParts own committed o′ l′) (invoke i) a

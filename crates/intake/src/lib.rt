@@ -1,6 +1,6 @@
 // The message at a place of a run of bytes received by a panel: its head is judged, and then its fields go from the bytes to the panel.
 //
-// The panel's parts are lent as in `entering` and `settling`, whose calls these are. `Intake` of `specs/` says what a message stands for and
+// The panel's parts are lent as in `delivering` and `settling`, whose calls these are. `Intake` of `specs/` says what a message stands for and
 // what receiving promises.
 use creek::Answer;
 use creek::Reply;
@@ -227,7 +227,7 @@ fn hear_at<'a>(
     let clock = reading::clock_at(bytes, at);
     let asked = reading::asked_at(bytes, at, strong);
     let standing = *committed;
-    let refusal = entering::deliver(
+    let refusal = delivering::deliver(
         panels,
         own,
         standing,

@@ -2,6 +2,7 @@
 use Rattle.creek.proofs.Answer as An
 use Rattle.creek.proofs.Answer.Laws as An′
 use Rattle.entering.specs.Entering as entering
+use Rattle.invoking.specs.Invoking as invoking
 use Rattle.settling.specs.Settling as settling
 use Rattle.intake.specs.internal.Parts as intake
 use Rattle.steps.specs.Lent.{UndoLent, ExecuteLent}
@@ -24,7 +25,7 @@ entrance h = record {
   order = h .order;
 }
 
-abbrev pub ownPart : Panel → entering.OwnLent
+abbrev pub ownPart : Panel → invoking.OwnLent
 ownPart h = record { awaiting = h .awaiting; events = h .events; clock = h .clock }
 
 -- to a settlement

@@ -1,6 +1,6 @@
 // A panel as a component: its whole memory in one struct, which the caller owns, and the calls on it for C and every language that calls C.
 //
-// A call on a panel reads the numbers and lends the counts and arrays that the function of `replica`, `entering`, `settling`, `intake`, `steps`
+// A call on a panel reads the numbers and lends the counts and arrays that the function of `replica`, `invoking`, `delivering`, `settling`, `intake`, `steps`
 // or `due` uses, which does the work in place: nothing is copied. `include/mizzencord.h` declares all calls, and `docs/CALLS.md` says
 // what they answer. Here are the calls that change a panel; those that show one are in `showing`, those on bytes alone in `bytes`.
 pub mod bytes;
@@ -89,7 +89,7 @@ pub extern "C" fn mizzencord_invoke(p: &mut Panel, i: Invocation) -> Answer
     requires { ⌜ Inv (memory (now p)) ⌝ }
     ensures { λ a. ⌜ Kept (memory (now (p .entry))) (invokeCall i) (record { answer = a; state = memory (now (p .exit)) }) ⌝ }
 {
-    entering::invoke(
+    invoking::invoke(
         p.own,
         p.committed,
         &mut p.ordered,
@@ -113,7 +113,7 @@ pub extern "C" fn mizzencord_deliver(p: &mut Panel, x: Request) -> Answer
     requires { ⌜ Inv (memory (now p)) ⌝ }
     ensures { λ a. ⌜ Kept (memory (now (p .entry))) (deliverCall x) (record { answer = a; state = memory (now (p .exit)) }) ⌝ }
 {
-    entering::deliver_request(
+    delivering::deliver_request(
         p.panels,
         p.own,
         p.committed,

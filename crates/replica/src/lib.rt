@@ -214,6 +214,6 @@ pub fn end_waiting(awaiting: &mut [u64; 8], n: Number, mark: u8)
     ensures { λ _. ⌜ setOf (now (awaiting .exit)) ≡ awaitingAfter (setOf (now (awaiting .entry))) n mark ⌝ }
 {
     if (mark == WEAK) | (mark == STABLE) {
-        store::leave(awaiting, n);
+        members::leave(awaiting, n);
     }
 }

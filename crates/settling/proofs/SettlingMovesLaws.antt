@@ -18,7 +18,8 @@ use Rattle.request.specs.declared.Request.{Request}
 use Rattle.request.specs.Order.{before}
 use Rattle.ordering.specs.Slots.{IsSlot, InOrder, inWords, comesBefore}
 use Rattle.slots.specs.Settlement.{SettlementAsks, Settled, MovesAsk}
-use Rattle.slots.specs.Marks.{Marks, United, Marked}
+use Rattle.slots.specs.Marks.{Marks, Marked}
+use Rattle.unions.specs.Union.{United}
 use Rattle.ordering.proofs.SlotLaws.{same-slot, in-words-member, comes-before-order}
 use Rattle.slots.proofs.MarkLaws.{moves-asked, marks-after}
 use Rattle.store.specs.Requests.{requestAt}

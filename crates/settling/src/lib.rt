@@ -133,7 +133,7 @@ fn early_refusal<'a>(
     if numbers::bad(panels, n) {
         return refusal::BAD_NUMBER;
     }
-    if !store::member(held, n) {
+    if !members::member(held, n) {
         return refusal::NOT_HERE;
     }
     let slot = numbers::slot_of(n);
@@ -142,7 +142,7 @@ fn early_refusal<'a>(
         return refusal::WEAK;
     }
     // A held strong request is known exactly where it is committed.
-    if store::member(known, n) {
+    if members::member(known, n) {
         return refusal::SETTLED_ALREADY;
     }
     refusal::ACCEPTED
@@ -196,9 +196,9 @@ fn settle<'a>(
     let stays = agreed(before, last, start);
     // The request is the last committed: it stays executed where the mark lies behind it, and its response was kept at its place.
     let response = responses[count - 1];
-    let awaited = store::member(awaiting, n);
+    let awaited = members::member(awaiting, n);
     let due = awaited & (count <= stays);
-    store::join(known, n);
+    members::join(known, n);
     let reply = settled_reply(due, response);
     replica::end_waiting(awaiting, n, reply.mark);
     *committed = count;
@@ -229,8 +229,8 @@ fn mark(settled: &mut [u64; 8], words: &[u64; 8], n: Number)
     requires { ⌜ MarkAsks (now settled) n ⌝ }
     ensures { λ _. ⌜ Marked (now (settled .entry)) (now (words .entry)) (slotOf n) (now (settled .exit)) ⌝ }
 {
-    slots::join_all(settled, words);
-    store::join(settled, n);
+    unions::join_all(settled, words);
+    members::join(settled, n);
 }
 
 // How many stay executed where the comparison up to `last`, behind which all agree, ended at `start`: all where it came to `last`, else

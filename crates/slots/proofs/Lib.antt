@@ -5,8 +5,6 @@ pub mod SettlementLaws
 pub mod MovingLaws
 pub mod FrontLaws
 pub mod AloneLaws
-pub mod LackedLaws
 pub mod CountedLaws
 pub mod MovesLaws
 pub mod MarkLaws
-pub mod UnionLaws

@@ -15,10 +15,10 @@ use Rattle.lists.proofs.BoolLaws.{true-not-false}
 use Rattle.lists.proofs.ListLaws.{one-false, count-append, count-others, keep-append, keep-nothing, keep-everything}
 use Rattle.lists.proofs.PlaceLaws.{take-slice, slice-split, slice-last}
 use Rattle.ordering.specs.Slots.{inWords}
-use Rattle.slots.specs.Lacked.{lackedCount}
+use Rattle.unions.specs.Lacked.{lackedCount}
 use Rattle.slots.specs.Settlement.{stays, moves, settled, SettlementAsks, Settled, Counted, NoneBehind, MovesAsk}
 use Rattle.slots.proofs.MovingLaws.{slot-before, asked-before, settled-further}
-use Rattle.slots.proofs.LackedLaws.{named-counted}
+use Rattle.unions.proofs.LackedLaws.{named-counted}
 
 -- ---- how many move
 

@@ -13,11 +13,6 @@ use Rattle.ordering.specs.Slots.{IsSlot, inWords}
 pub record Marks (order : List ℕ) (n : ℕ) (words : List ℕ) : Type 0 where
   pub marked : (t : ℕ) → IsSlot t → count (eqb t) (take n order) ≡ one (inWords words t)
 
--- `after` has the numbers of `words` and of `others`
-pub record United (words others after : List ℕ) : Type 0 where
-  pub members : (t : ℕ) → IsSlot t → inWords after t ≡ (inWords words t || inWords others t)
-  pub long : length after ≡ mostPanels
-
 -- `after` has the numbers that were settled, those of the context `words` and that of s
 pub record Marked (settledWords words : List ℕ) (s : ℕ) (after : List ℕ) : Type 0 where
   pub members : (t : ℕ) → IsSlot t → inWords after t ≡ (inWords settledWords t || (inWords words t || eqb s t))

@@ -1,7 +1,6 @@
 // The standing order after a settlement: of the tentative slots those named in a context, then the settled request's own, then those
 // that stay tentative.
 use super::front;
-use super::members;
 ghost use mathlib.Core.Path.{_≡_};
 ghost use Prim.Native.Nat.{_<_};
 ghost use lib.Seq.{paste};
@@ -128,7 +127,7 @@ pub fn settle_moving<'a>(
     requires { ⌜ MovesAsk (now order) (now clocks) from to (now words) (now settled) slot ⌝ }
     ensures { λ r. ⌜ Settled (now (order .entry)) from to (now (words .entry)) slot (now (order .exit)) (r .committed) (r .end) ⌝ }
 {
-    let named = members::lacked_count(words, settled);
+    let named = unions::lacked_count(words, settled);
     if named == 0 {
         let end = front::to_front(order, clocks, from, to, slot);
         let alone = from + 1;

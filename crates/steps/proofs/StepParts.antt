@@ -27,7 +27,8 @@ use Rattle.replica.specs.internal.Parts.{withCounters}
 use Rattle.replica.specs.Promises.{Kept}
 use Rattle.replica.specs.internal.Model.{bookOf, Inv}
 use Rattle.steps.specs.Lent.{UndoLent, undoChanged, undoing, ExecuteLent, executeChanged, executing}
-use Rattle.steps.specs.Steps.{UndoAsks, UndoKept, TopAsks, TakenOff, ExecuteAsks, ExecuteKept, PutOn}
+use Rattle.steps.specs.Steps.{UndoAsks, UndoKept, ExecuteAsks, ExecuteKept}
+use Rattle.board.specs.Board.{TopAsks, TakenOff, PutOn}
 use Rattle.replica.proofs.KeptLaws.{kept-refused}
 use Rattle.replica.proofs.ModelLaws.{top-slot, next-slot}
 use Rattle.steps.proofs.UndoLaws.{undo-refused, undo-kept}

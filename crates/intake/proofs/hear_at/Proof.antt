@@ -1,4 +1,4 @@
--- `hear_at` meets its contract by that of `entering::deliver`.
+-- `hear_at` meets its contract by that of `delivering::deliver`.
 use native.Mathlib.Omega.{arith}
 use mathlib.Core.Path.{refl}
 use Rattle.replica.specs.State.{State}

@@ -1,4 +1,4 @@
--- `mizzencord::mizzencord_deliver` meets its contract: its MIR is that of a function that lends parts of a panel, to `entering::deliver_request`.
+-- `mizzencord::mizzencord_deliver` meets its contract: its MIR is that of a function that lends parts of a panel, to `delivering::deliver_request`.
 use mathlib.Core.Path.{refl}
 use mathlib.Core.List.{List, [], _∷_, _++_}
 use base.Logic.{id⊢}
@@ -11,10 +11,10 @@ use denote.Triple.Table.{entered, cited}
 use Rattle.request.proofs.Request as X
 use Rattle.request.proofs.Request.Laws as X′
 use Rattle.replica.specs.internal.Parts.{Asks}
-use Rattle.entering.specs.Entering.{deliverParts, DeliverKept}
-use Rattle.entering.proofs.deliver_request as callee
-use Rattle.entering.proofs.deliver_request.Symbol as callee-def
-use Rattle.entering.proofs.deliver_request.Met as callee-thm
+use Rattle.delivering.specs.Delivering.{deliverParts, DeliverKept}
+use Rattle.delivering.proofs.deliver_request as callee
+use Rattle.delivering.proofs.deliver_request.Symbol as callee-def
+use Rattle.delivering.proofs.deliver_request.Met as callee-thm
 use Rattle.replica.specs.internal.Model.{Inv}
 use Rattle.mizzencord.specs.Memory.{memory}
 use Rattle.mizzencord.proofs.Panel as T
@@ -54,7 +54,7 @@ mizzencord-deliver-spec 𝓤 H 𝓜 𝓖 𝓡 =
     let W = givenOf 𝓤 H 𝓜 𝓖 in
     let 𝓣 = tablesOf 𝓤 H 𝓜 (tables 𝓤 H 𝓜 𝓡 code.env) in
     let known = cited 𝓤 H (tripleOf 𝓤 H (𝓖 .A) callee.signature (callee.spec 𝓤 H (𝓖 .A) (𝓜 .mem) (𝓡 .run))) 𝓜 𝓡 code.env callee-def.name
-    callee-def.routine code.calls-entering·deliver-request (callee-thm.met 𝓤 H 𝓜 𝓖 𝓡) in
+    callee-def.routine code.calls-delivering·deliver-request (callee-thm.met 𝓤 H 𝓜 𝓖 𝓡) in
     let operands = part-locals F [] numbers lent ++ further-locals F in
     entered 𝓤 H (tripleOf 𝓤 H (𝓖 .A) f.signature (f.spec 𝓤 H (𝓖 .A) (𝓜 .mem) (𝓡 .run))) (tables 𝓤 H 𝓜 𝓡 code.env .C)
     (tables 𝓤 H 𝓜 𝓡 code.env .Λ) #mizzencord·mizzencord-deliver code.function (code.unfolded 𝓤 H 𝓜 𝓡)

@@ -1,4 +1,4 @@
--- `mizzencord::mizzencord_invoke` meets its contract: its MIR is that of a function that lends parts of a panel, to `entering::invoke`.
+-- `mizzencord::mizzencord_invoke` meets its contract: its MIR is that of a function that lends parts of a panel, to `invoking::invoke`.
 use mathlib.Core.Path.{refl}
 use mathlib.Core.List.{List, [], _∷_, _++_}
 use base.Logic.{id⊢}
@@ -10,10 +10,10 @@ use denote.Triple.Spec.{tripleOf}
 use denote.Triple.Table.{entered, cited}
 use Rattle.creek.proofs.Invocation as X
 use Rattle.creek.proofs.Invocation.Laws as X′
-use Rattle.entering.specs.Entering.{InvokeAsks, InvokeKept}
-use Rattle.entering.proofs.invoke as callee
-use Rattle.entering.proofs.invoke.Symbol as callee-def
-use Rattle.entering.proofs.invoke.Met as callee-thm
+use Rattle.invoking.specs.Invoking.{InvokeAsks, InvokeKept}
+use Rattle.invoking.proofs.invoke as callee
+use Rattle.invoking.proofs.invoke.Symbol as callee-def
+use Rattle.invoking.proofs.invoke.Met as callee-thm
 use Rattle.replica.specs.internal.Model.{Inv}
 use Rattle.mizzencord.specs.Memory.{memory}
 use Rattle.mizzencord.proofs.Panel as T
@@ -53,7 +53,7 @@ mizzencord-invoke-spec 𝓤 H 𝓜 𝓖 𝓡 =
     let W = givenOf 𝓤 H 𝓜 𝓖 in
     let 𝓣 = tablesOf 𝓤 H 𝓜 (tables 𝓤 H 𝓜 𝓡 code.env) in
     let known = cited 𝓤 H (tripleOf 𝓤 H (𝓖 .A) callee.signature (callee.spec 𝓤 H (𝓖 .A) (𝓜 .mem) (𝓡 .run))) 𝓜 𝓡 code.env callee-def.name
-    callee-def.routine code.calls-entering·invoke (callee-thm.met 𝓤 H 𝓜 𝓖 𝓡) in
+    callee-def.routine code.calls-invoking·invoke (callee-thm.met 𝓤 H 𝓜 𝓖 𝓡) in
     let operands = part-locals F [] numbers lent ++ further-locals F in
     entered 𝓤 H (tripleOf 𝓤 H (𝓖 .A) f.signature (f.spec 𝓤 H (𝓖 .A) (𝓜 .mem) (𝓡 .run))) (tables 𝓤 H 𝓜 𝓡 code.env .C)
     (tables 𝓤 H 𝓜 𝓡 code.env .Λ) #mizzencord·mizzencord-invoke code.function (code.unfolded 𝓤 H 𝓜 𝓡)

@@ -8,7 +8,7 @@ use Rattle.lists.proofs.BoolLaws.{both-true}
 use Rattle.ordering.specs.Slots.{mostSlots}
 use Rattle.slots.specs.Settlement.{Counted, NoneBehind}
 use Rattle.slots.proofs.AloneLaws.{settled-alone}
-use Rattle.slots.proofs.LackedLaws.{lacked-few}
+use Rattle.unions.proofs.LackedLaws.{lacked-few}
 use Rattle.slots.proofs.MovingLaws.{settled-further}
 use Rattle.slots.proofs.MovesLaws.{named-many, counted-by, some-moves, asked-upto, settled-run}
 use Rattle.slots.proofs.settlement.settle_moving.Statement.{statement}

@@ -1,0 +1,3 @@
+-- Two sets of numbers in words.
+pub mod Lacked
+pub mod Union
