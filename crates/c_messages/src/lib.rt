@@ -56,7 +56,7 @@ pub fn write(message: Message, out: &mut [u8]) -> Written
     let subject = subject_of(message.settles);
     let request = message.request;
     let m = wire::Message { subject, request };
-    wire::write(out, m)
+    writer::write(out, m)
 }
 
 // The message at a place with a good head of its kind, its fields straight from the bytes.

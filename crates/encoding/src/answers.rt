@@ -33,6 +33,6 @@ fn put_message(out: &mut [u8], at: usize, x: Request) -> usize
 {
     let mut message = [0u8; LONGEST_MESSAGE];
     let spread = wire::of_request(x);
-    let written = wire::write(&mut message, spread);
+    let written = writer::write(&mut message, spread);
     text::put_bytes(out, at, &message)
 }

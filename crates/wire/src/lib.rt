@@ -1,16 +1,15 @@
-// Bus messages, document 01's kinds 1 to 3: a reader of a lent run of bytes and a writer into a lent part.
+// Bus messages, document 01's kinds 1 to 3: what they are, and a reader of a lent run of bytes; the writer is the crate `writer`.
 //
-// Here are the types. The calls are `reader::read` and `writer::write`; `heads::head_at` judges a message before its fields are read, so
-// that a caller reads those it wants by `fields`, straight from the bytes. `messages` makes messages and tells their kind and size, `layout` has
-// the numbers and sizes of the kinds. The contracts cite `readAt`, `headOf`, `writeAnswer` and `afterWrite` of `specs/`; what a good head
-// gives is in `proofs/HeadLaws.antt`, that messages read back as written and write back as read in `proofs/RoundTrip.antt`.
+// Here are the types. The call is `reader::read`; `heads::head_at` judges a message before its fields are read, so that a caller reads those
+// it wants by `fields`, straight from the bytes. `messages` makes messages and tells their kind and size, `layout` has the numbers and sizes of
+// the kinds. The contracts cite `readAt` and `headOf` of `specs/`, the writer's `writeAnswer` and `afterWrite`; what a good head gives is in
+// `proofs/HeadLaws.antt`, that messages read back as written and write back as read in `proofs/RoundTrip.antt`.
 use request::Request;
 
 pub mod heads;
 pub mod layout;
 pub mod messages;
 pub mod reader;
-pub mod writer;
 
 pub use heads::head_at;
 pub use layout::kind_number;
@@ -19,7 +18,6 @@ pub use messages::of_request;
 pub use messages::of_settlement;
 pub use reader::read;
 pub use reader::refusal_of;
-pub use writer::write;
 
 // The kinds of messages; `kindNumber` of `specs/` gives their numbers.
 pub enum Kind {

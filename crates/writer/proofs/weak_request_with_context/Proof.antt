@@ -1,7 +1,7 @@
 -- `writer::weak_request_with_context` meets its contract.
 use Rattle.wire.specs.Message.{weakWithContext}
-use Rattle.wire.proofs.writer.weak_request_with_context.Statement.{statement}
-use Rattle.wire.proofs.writer.weak_request_with_context.Tie as tie
+use Rattle.writer.proofs.weak_request_with_context.Statement.{statement}
+use Rattle.writer.proofs.weak_request_with_context.Tie as tie
 
 returns : tie.Need-returns
 unfolding weakWithContext

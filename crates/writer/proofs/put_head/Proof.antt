@@ -2,8 +2,8 @@
 use native.Mathlib.Omega.{arith}
 use Rattle.fields.proofs.WidthLaws.{field-then, field-last}
 use borrow.Author.Needs.{needs}
-use Rattle.wire.proofs.writer.put_head.Statement.{statement}
-use Rattle.wire.proofs.writer.put_head.Tie as tie
+use Rattle.writer.proofs.put_head.Statement.{statement}
+use Rattle.writer.proofs.put_head.Tie as tie
 
 kind-number-requires : tie.Need-kind-number-requires
 kind-number-requires c κs = tt

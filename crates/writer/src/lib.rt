@@ -1,25 +1,25 @@
 // The writer: a message at the front of a lent part.
-use super::Kind;
-use super::Message;
-use super::Subject;
-use super::Written;
-use super::layout;
-use super::messages;
 use fields::integers;
 use fields::places;
 use fields::writing;
 use request::Request;
 use request::refusal;
+use wire::Kind;
+use wire::Message;
+use wire::Subject;
+use wire::Written;
+use wire::layout;
+use wire::messages;
 ghost use mathlib.Core.Path.{_≡_};
 ghost use Prim.Native.Nat.{_≤_};
 ghost use mathlib.Core.List.{_∷_, []};
 ghost use lib.ListN.{length};
 ghost use lib.Seq.{sets as put};
 ghost use Rattle.wire.specs.Layout.{kindNumber};
 ghost use Rattle.fields.specs.Widths.{headWidths, headSize, encode};
 ghost use Rattle.wire.specs.Message.{request as requestMessage, said, bytesOf, weakWithContext};
 ghost use Rattle.wire.specs.Writer.{Wrote};
 ghost use Rattle.wire.specs.internal.PutAsks.{PutAsks};
 
 // Writes m at the front of out: exactly its bytes, or nothing where it is refused.
 pub fn write(out: &mut [u8], m: Message) -> Written

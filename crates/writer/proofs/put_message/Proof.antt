@@ -3,16 +3,16 @@ use Prim.Native.Nat.{_≤_}
 use mathlib.Core.Path.{_≡_, ap}
 use native.Mathlib.Omega.{arith}
 use lib.ListN.{length}
 use Rattle.wire.specs.declared.Kind.{Kind}
 use Rattle.wire.specs.declared.Kind.the-variants.{Weak, Strong}
 use Rattle.wire.specs.Layout.{leastSize, widthsWith, layout}
 use Rattle.wire.specs.Message.{said}
 use Rattle.wire.proofs.KindLaws.{kind-laws}
 use Rattle.wire.proofs.MessageLaws.{runless-size}
 use Rattle.wire.proofs.WriterLaws.{settlement-put, weak-put, strong-put}
 use borrow.Author.Needs.{needs}
-use Rattle.wire.proofs.writer.put_message.Statement.{statement}
-use Rattle.wire.proofs.writer.put_message.Tie as tie
+use Rattle.writer.proofs.put_message.Statement.{statement}
+use Rattle.writer.proofs.put_message.Tie as tie
 
 -- out has room for the kind's bytes
 room : (s : tie.Start) → leastSize (s .args .kind) ≤ length (s .args .out .now)

@@ -1,10 +1,10 @@
 -- `writer::weak_with_context` meets its contract.
 use mathlib.Core.Path.{sym, ap, _∙_}
 use Rattle.wire.specs.Message.{weakWithContext}
 use Rattle.wire.proofs.MessageLaws.{said-request, said-settlement}
 use borrow.Author.Needs.{needs}
-use Rattle.wire.proofs.writer.weak_with_context.Statement.{statement}
-use Rattle.wire.proofs.writer.weak_with_context.Tie as tie
+use Rattle.writer.proofs.weak_with_context.Statement.{statement}
+use Rattle.writer.proofs.weak_with_context.Tie as tie
 
 enum-told : tie.Need-enum-told
 enum-told c = search needs

@@ -3,12 +3,12 @@ use Prim.Native.Nat.{ℕ}
 use Rattle.request.specs.Refusal as refusal
 use mathlib.Core.Bool.{false}
 use mathlib.Core.Path.{_≡_, sym, ap, _∙_}
 use Rattle.wire.specs.Message.{Fits, said, weakWithContext}
 use Rattle.wire.proofs.MessageLaws.{Held, said-fits, array-small}
 use Rattle.wire.proofs.WriterLaws.{context-refused, room-refused, written, bytes-put}
 use borrow.Author.Needs.{needs}
-use Rattle.wire.proofs.writer.write.Statement.{statement}
-use Rattle.wire.proofs.writer.write.Tie as tie
+use Rattle.writer.proofs.write.Statement.{statement}
+use Rattle.writer.proofs.write.Tie as tie
 
 -- ---- earlier places of the function, from later ones
 
