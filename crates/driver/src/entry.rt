@@ -200,7 +200,7 @@ fn take<'a>(
         }
         Subject::Settlement => {
             let standing = *ordered;
-            settling::commit(
+            committing::commit(
                 panels,
                 standing,
                 committed,

@@ -1,6 +1,6 @@
 // The message at a place of a run of bytes received by a panel: its head is judged, and then its fields go from the bytes to the panel.
 //
-// The panel's parts are lent as in `delivering` and `settling`, whose calls these are. `Intake` of `specs/` says what a message stands for and
+// The panel's parts are lent as in `delivering` and `committing`, whose calls these are. `Intake` of `specs/` says what a message stands for and
 // what receiving promises.
 use creek::Answer;
 use creek::Reply;
@@ -169,7 +169,7 @@ fn take_at<'a>(
         Kind::Settlement => {
             let number = reading::number_at(bytes, at);
             let standing = *ordered;
-            settling::commit(
+            committing::commit(
                 panels,
                 standing,
                 committed,

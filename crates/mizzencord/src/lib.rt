@@ -1,6 +1,6 @@
 // A panel as a component: its whole memory in one struct, which the caller owns, and the calls on it for C and every language that calls C.
 //
-// A call on a panel reads the numbers and lends the counts and arrays that the function of `replica`, `invoking`, `delivering`, `settling`, `intake`, `steps`
+// A call on a panel reads the numbers and lends the counts and arrays that the function of `replica`, `invoking`, `delivering`, `committing`, `intake`, `steps`
 // or `due` uses, which does the work in place: nothing is copied. `include/mizzencord.h` declares all calls, and `docs/CALLS.md` says
 // what they answer. Here are the calls that change a panel; those that show one are in `showing`, those on bytes alone in `bytes`.
 pub mod bytes;
@@ -135,7 +135,7 @@ pub extern "C" fn mizzencord_commit(p: &mut Panel, n: Number) -> Answer
     requires { ⌜ Inv (memory (now p)) ⌝ }
     ensures { λ a. ⌜ Kept (memory (now (p .entry))) (commitCall n) (record { answer = a; state = memory (now (p .exit)) }) ⌝ }
 {
-    settling::commit_answer(
+    committing::commit_answer(
         p.panels,
         p.ordered,
         &mut p.committed,

@@ -10,8 +10,8 @@
 // with these parts that came from fresh and the calls. The steps are not counted here: a call says how many it did, and whoever has the
 // counters counts them.
 //
-// Fresh is here, the showing calls in `showing`; invoke and deliver are the crate `entering`, commit is `settling`, undo and execute are
-// `steps`, all due steps at once are `due`. `State` of `specs/` is the memory as one record, `Model` maps it to a replica of `creek`.
+// Fresh is here, the showing calls in `showing`; invoke is the crate `invoking`, deliver `delivering`, commit `committing`, undo and
+// execute are `steps`, all due steps at once are `due`. `State` of `specs/` is the memory as one record, `Model` maps it to a replica of `creek`.
 pub mod showing;
 
 use counters::Counters;

@@ -1,4 +1,4 @@
--- `mizzencord::mizzencord_commit` meets its contract: its MIR is that of a function that lends parts of a panel, to `settling::commit_answer`.
+-- `mizzencord::mizzencord_commit` meets its contract: its MIR is that of a function that lends parts of a panel, to `committing::commit_answer`.
 use mathlib.Core.Path.{refl}
 use mathlib.Core.List.{List, [], _∷_, _++_}
 use base.Logic.{id⊢}
@@ -11,9 +11,9 @@ use denote.Triple.Table.{entered, cited}
 use Rattle.numbers.proofs.Number as X
 use Rattle.numbers.proofs.Number.Laws as X′
 use Rattle.settling.specs.Settling.{CommitAsks, CommitKept}
-use Rattle.settling.proofs.commit_answer as callee
-use Rattle.settling.proofs.commit_answer.Symbol as callee-def
-use Rattle.settling.proofs.commit_answer.Met as callee-thm
+use Rattle.committing.proofs.commit_answer as callee
+use Rattle.committing.proofs.commit_answer.Symbol as callee-def
+use Rattle.committing.proofs.commit_answer.Met as callee-thm
 use Rattle.replica.specs.internal.Model.{Inv}
 use Rattle.mizzencord.specs.Memory.{memory}
 use Rattle.mizzencord.proofs.Panel as T
@@ -53,7 +53,7 @@ mizzencord-commit-spec 𝓤 H 𝓜 𝓖 𝓡 =
     let W = givenOf 𝓤 H 𝓜 𝓖 in
     let 𝓣 = tablesOf 𝓤 H 𝓜 (tables 𝓤 H 𝓜 𝓡 code.env) in
     let known = cited 𝓤 H (tripleOf 𝓤 H (𝓖 .A) callee.signature (callee.spec 𝓤 H (𝓖 .A) (𝓜 .mem) (𝓡 .run))) 𝓜 𝓡 code.env callee-def.name
-    callee-def.routine code.calls-settling·commit-answer (callee-thm.met 𝓤 H 𝓜 𝓖 𝓡) in
+    callee-def.routine code.calls-committing·commit-answer (callee-thm.met 𝓤 H 𝓜 𝓖 𝓡) in
     let operands = part-locals F [] numbers lent ++ further-locals F in
     entered 𝓤 H (tripleOf 𝓤 H (𝓖 .A) f.signature (f.spec 𝓤 H (𝓖 .A) (𝓜 .mem) (𝓡 .run))) (tables 𝓤 H 𝓜 𝓡 code.env .C)
     (tables 𝓤 H 𝓜 𝓡 code.env .Λ) #mizzencord·mizzencord-commit code.function (code.unfolded 𝓤 H 𝓜 𝓡)

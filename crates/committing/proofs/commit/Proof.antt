@@ -1,13 +1,13 @@
--- `settling::commit` meets its contract by that of `settle`, and by the early refusals.
+-- `committing::commit` meets its contract by that of `settle`, and by the early refusals.
 use mathlib.Core.Path.{sym, ap, _∙_}
 use Rattle.creek.specs.Replies.{replyAnswer}
 use Rattle.replica.specs.State.{State}
 use Rattle.settling.specs.Settling.{lentNow, commitParts}
 use Rattle.settling.proofs.SettlingHeldLaws.{few-panels}
 use Rattle.settling.proofs.SettlingRefusalLaws.{kept-early}
 use borrow.Author.Needs.{needs}
-use Rattle.settling.proofs.commit.Statement.{statement}
-use Rattle.settling.proofs.commit.Tie as tie
+use Rattle.committing.proofs.commit.Statement.{statement}
+use Rattle.committing.proofs.commit.Tie as tie
 
 -- a panel with the parts lent
 abbrev lent : tie.Start → State → State

@@ -1,4 +1,4 @@
--- `settling::early_refusal` meets its contract: each answer is what is left of the definition by the tests passed.
+-- `committing::early_refusal` meets its contract: each answer is what is left of the definition by the tests passed.
 use mathlib.Core.Path.{_≡_, _∙_, sym, ap}
 use mathlib.Core.Bool.{false, not}
 use lib.ListN.{getD}
@@ -10,9 +10,9 @@ use Rattle.request.specs.declared.Asked.{Asked}
 use Rattle.sets.specs.Sets.{setOf, member}
 use Rattle.store.specs.Requests.{askedIn}
 use Rattle.creek.proofs.HeldLaws.{widened}
 use Rattle.settling.specs.Settling.{earlyRefusal}
-use Rattle.settling.proofs.early_refusal.Statement.{statement}
-use Rattle.settling.proofs.early_refusal.Tie as tie
+use Rattle.committing.proofs.early_refusal.Statement.{statement}
+use Rattle.committing.proofs.early_refusal.Tie as tie
 
 -- ---- what is known behind the tests
 

@@ -1,12 +1,12 @@
--- `settling::commit_answer` meets its contract by that of `settle`, and by the early refusals.
+-- `committing::commit_answer` meets its contract by that of `settle`, and by the early refusals.
 use mathlib.Core.Path.{sym, _∙_}
 use Rattle.replica.specs.State.{State}
 use Rattle.settling.specs.Settling.{lentNow, commitParts}
 use Rattle.settling.proofs.SettlingHeldLaws.{few-panels}
 use Rattle.settling.proofs.SettlingRefusalLaws.{kept-early}
 use borrow.Author.Needs.{needs}
-use Rattle.settling.proofs.commit_answer.Statement.{statement}
-use Rattle.settling.proofs.commit_answer.Tie as tie
+use Rattle.committing.proofs.commit_answer.Statement.{statement}
+use Rattle.committing.proofs.commit_answer.Tie as tie
 
 -- a panel with the parts lent
 abbrev lent : tie.Start → State → State
