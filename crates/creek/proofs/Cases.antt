@@ -26,7 +26,7 @@ use Rattle.creek.specs.examples.Notation.{Case, onRegisters, onBoard, an
 use Rattle.creek.specs.examples.Cases.{standing, worked, afterWorked, nineNineEight, cases}
 use Rattle.creek.specs.examples.Faults.{strongHeard, twiceChanged, overtaken, falling, overtaking, faults, reaching}
 use Rattle.creek.specs.examples.Answers.{requestFields, answerFields, fieldsTold, answerCases}
-use Rattle.creek.specs.examples.Answers.{registerAt, placeAt, counts, bothHeld, shownCases}
+use Rattle.creek.specs.examples.Answers.{registerAt, placeAt, counts, shopOf, bothHeld, shownCases}
 use Rattle.creek.specs.examples.Readings.{madeAndHeard, readings, sumAfter, moveReadings}
 
 pub edge-cases : map (λ (c : Case). c .computed) cases ≡ map (λ (c : Case). c .said) cases
@@ -52,7 +52,7 @@ answers-told = refl
 
 -- what each showing call shows
 pub shown-told : map (λ (c : Case). c .computed) shownCases ≡ map (λ (c : Case). c .said) shownCases
-unfolding shownCases bothHeld registerAt placeAt counts requestFields driven sameNumber badNumber sameOperation badOperation sameAsked
+unfolding shownCases bothHeld registerAt placeAt counts shopOf requestFields driven sameNumber badNumber sameOperation badOperation sameAsked
     badAsked sameWords sameContext allZero isEmpty namesFrom bit member join leave lackedWords difference subset lowestFrom lowest
     lowestLacking before sameRequest badContext offBoard added claimed amountMoved moved exec response replayOn replay lastEvent
     lastClock entered without atLeast made committing committingFound invokeRefusal deliverRefusal commitRefusal registers adjusted

@@ -5,7 +5,7 @@ use super::Panel;
 use replica::PlacedRequest;
 use replica::RegisterValue;
 ghost use mathlib.Core.Path.{_≡_};
-ghost use Rattle.creek.specs.Showing.{requestsShown, commitsShown, undosShown, executionsShown, owedShown};
+ghost use Rattle.creek.specs.Showing.{requestsShown, commitsShown, undosShown, executionsShown, owedShown, panelsShown, ownShown, madeShown};
 ghost use Rattle.replica.specs.internal.Model.{model, Inv};
 ghost use Rattle.replica.specs.Shown.{committedShown, RegisterShown, PlaceShown};
 ghost use Rattle.mizzencord.specs.Memory.{memory};
@@ -71,6 +71,33 @@ pub extern "C" fn mizzencord_executions(p: &Panel) -> u32
     ensures { λ n. ⌜ n ≡ executionsShown (model (memory (now (p .entry)))) ⌝ }
 {
     replica::executions(p.counters)
+}
+
+// The number of panels of the shop.
+#[no_mangle]
+pub extern "C" fn mizzencord_panels(p: &Panel) -> u8
+    requires { ⌜ Inv (memory (now p)) ⌝ }
+    ensures { λ n. ⌜ n ≡ panelsShown (model (memory (now (p .entry)))) ⌝ }
+{
+    replica::panels(p.panels)
+}
+
+// The own panel.
+#[no_mangle]
+pub extern "C" fn mizzencord_own(p: &Panel) -> u8
+    requires { ⌜ Inv (memory (now p)) ⌝ }
+    ensures { λ n. ⌜ n ≡ ownShown (model (memory (now (p .entry)))) ⌝ }
+{
+    replica::own(p.own)
+}
+
+// The own requests made.
+#[no_mangle]
+pub extern "C" fn mizzencord_made(p: &Panel) -> u8
+    requires { ⌜ Inv (memory (now p)) ⌝ }
+    ensures { λ n. ⌜ n ≡ madeShown (model (memory (now (p .entry)))) ⌝ }
+{
+    replica::made(p.events)
 }
 
 // The request at a place of the standing order, places counted from 1, or refusal 9 with a request of zeros.
