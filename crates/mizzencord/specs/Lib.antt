@@ -1,3 +1,4 @@
 -- The definitions that the contracts cite.
 pub mod Memory
 pub mod Messages
+pub mod Version
