@@ -6,10 +6,11 @@
  * nothing else, keeps no pointer, asks for no heap and ends. Two calls on one panel must not run at the same time; panels are
  * independent. Every call answers every argument: a call that cannot be done is refused by a number and changes nothing, but for
  * mizzencord_fresh, which makes a panel of the memory whatever it held. A panel's bytes may be moved and copied, but not written by
- * anybody else, and are read by the revision of the library that wrote them.
+ * anybody else. A stored panel belongs to one revision of the library: store MIZZENCORD_VERSION beside it.
  *
  * A run of bytes is a pointer and a length; the pointer is not null, even where the length is 0. It must not overlap the panel of the same
- * call, and the runs that one call is lent must not overlap where one of them is written. Document 01's words: make is invoke, hear deliver, settle commit, carry out execute.
+ * call, and the runs that one call is lent must not overlap where one of them is written. Document 01's words: make is invoke, hear deliver,
+ * settle commit, carry out execute.
  */
 #ifndef MIZZENCORD_H
 #define MIZZENCORD_H
@@ -21,6 +22,9 @@
 #ifdef __cplusplus
 extern "C" {
 #endif
+
+/* The revision of this header; it changes with every layout of a struct or of a panel, and mizzencord_version tells the library's. */
+#define MIZZENCORD_VERSION 1
 
 /* Limits of a shop. */
 enum {
@@ -65,6 +69,13 @@ enum {
     MIZZENCORD_REPLY_WEAK = 1,
     MIZZENCORD_REPLY_TENTATIVE = 2,
     MIZZENCORD_REPLY_STABLE = 3
+};
+
+/* Kinds of bus messages. */
+enum {
+    MIZZENCORD_WEAK_REQUEST = 1,
+    MIZZENCORD_STRONG_REQUEST = 2,
+    MIZZENCORD_SETTLEMENT = 3
 };
 
 /* Codes of operations. */
@@ -135,19 +146,22 @@ typedef struct {
     uint8_t refusal;
 } mizzencord_written;
 
-/* What the message at a place led to: the answer, and the message's bytes, 0 where none could be read. */
-typedef struct {
-    mizzencord_answer answer;
-    uint64_t taken;
-} mizzencord_receipt;
-
-/* A reply that fell due; its refusal is 0. */
+/* A reply: what an answer says beside its request. One that fell due among all due steps has refusal 0. */
 typedef struct {
     uint32_t response;
     mizzencord_number number;
     uint8_t mark;
     uint8_t refusal;
 } mizzencord_reply;
+
+/* What the message at a place led to: the answer, which has no request; which message it was, by the number and the kind on the bus; and its
+ * bytes. Number, kind and bytes are 0 where none could be read; the reply then has the reader's refusal, or 0 at the end. */
+typedef struct {
+    mizzencord_reply reply;
+    mizzencord_number number;
+    uint16_t kind; /* MIZZENCORD_WEAK_REQUEST, _STRONG_REQUEST or _SETTLEMENT */
+    uint32_t taken;
+} mizzencord_receipt;
 
 /* What all due steps were: how many undos and executions, and the replies, of which there are `count`, zeros behind them. */
 typedef struct {
@@ -169,13 +183,24 @@ typedef struct {
     uint8_t refusal;
 } mizzencord_placed;
 
+/* What a panel has of a request: its place in the standing order, counted from 1; whether it is in the settled list; whether it awaits a
+ * reply, which only an own request does; whether it is executed now, and with which response, 0 where it is not. Zeros where it is refused. */
+typedef struct {
+    uint32_t response;
+    uint32_t place;
+    bool settled;
+    bool awaited;
+    bool executed;
+    uint8_t refusal;
+} mizzencord_status;
+
 /* What a list of calls led to: how many calls were run; and no room, or fresh's refusal. */
 typedef struct {
     uint64_t ran;
     uint8_t refusal;
 } mizzencord_ran;
 
-/* A panel: 47,672 bytes, aligned as a uint64_t. */
+/* A panel: 47,672 bytes, aligned as a uint64_t. Every byte of it is set by mizzencord_fresh. */
 #define MIZZENCORD_PANEL_SIZE 47672
 typedef struct {
     uint64_t memory[MIZZENCORD_PANEL_SIZE / 8];
@@ -197,11 +222,12 @@ MIZZENCORD_SIZE(mizzencord_answer, 88)
 MIZZENCORD_SIZE(mizzencord_message, 88)
 MIZZENCORD_SIZE(mizzencord_reading, 104)
 MIZZENCORD_SIZE(mizzencord_written, 16)
-MIZZENCORD_SIZE(mizzencord_receipt, 96)
 MIZZENCORD_SIZE(mizzencord_reply, 8)
+MIZZENCORD_SIZE(mizzencord_receipt, 16)
 MIZZENCORD_SIZE(mizzencord_due, 528)
 MIZZENCORD_SIZE(mizzencord_value, 8)
 MIZZENCORD_SIZE(mizzencord_placed, 88)
+MIZZENCORD_SIZE(mizzencord_status, 12)
 MIZZENCORD_SIZE(mizzencord_ran, 16)
 MIZZENCORD_SIZE(mizzencord_panel, MIZZENCORD_PANEL_SIZE)
 
@@ -258,6 +284,20 @@ size_t mizzencord_owed(const mizzencord_panel *panel);
 /* The request at a place of the standing order, places counted from 1. */
 mizzencord_placed mizzencord_at_place(const mizzencord_panel *panel, size_t place);
 
+/* The number of panels of the shop, the own panel, and the own requests made, which is the event of the last one: what firmware compares
+ * with its configuration when it puts a stored panel back. */
+uint8_t mizzencord_panels(const mizzencord_panel *panel);
+uint8_t mizzencord_own(const mizzencord_panel *panel);
+uint8_t mizzencord_made(const mizzencord_panel *panel);
+
+/* What the panel has of the request of that number; refused as a bad number, and then as not here where it is not held. */
+mizzencord_status mizzencord_request_status(const mizzencord_panel *panel, mizzencord_number number);
+
+/* ---- the library */
+
+/* The MIZZENCORD_VERSION that the library was built for: where it is another than the header's, take both from one revision. */
+uint32_t mizzencord_version(void);
+
 /* ---- bus messages, without a panel */
 
 /* Reads the message at a place of the bytes; it judges the layout only. */
@@ -279,5 +319,34 @@ mizzencord_ran mizzencord_run(const uint8_t *calls, size_t calls_length, uint8_t
 #ifdef __cplusplus
 }
 #endif
+
+/* The word of a refusal, as document 01 has it; "accepted" for 0, and "no refusal" for what no call answers. A table of this header, so that
+ * a program that does not use it has none of it. */
+static inline const char *mizzencord_refusal_word(uint8_t refusal) {
+    switch (refusal) {
+    case MIZZENCORD_ACCEPTED: return "accepted";
+    case MIZZENCORD_BAD_SHOP: return "bad shop";
+    case MIZZENCORD_BAD_NUMBER: return "bad number";
+    case MIZZENCORD_BAD_OPERATION: return "bad operation";
+    case MIZZENCORD_OWN_ECHO: return "own echo";
+    case MIZZENCORD_SHIFT_FULL: return "shift full";
+    case MIZZENCORD_HELD_ALREADY: return "held already";
+    case MIZZENCORD_NUMBER_CLASH: return "number clash";
+    case MIZZENCORD_NOT_HERE: return "not here";
+    case MIZZENCORD_WEAK: return "weak";
+    case MIZZENCORD_SETTLED_ALREADY: return "settled already";
+    case MIZZENCORD_WAITS: return "waits";
+    case MIZZENCORD_NOTHING_TO_UNDO: return "nothing to undo";
+    case MIZZENCORD_UNDO_FIRST: return "undo first";
+    case MIZZENCORD_NOTHING_TO_DO: return "nothing to do";
+    case MIZZENCORD_CUT_SHORT: return "cut short";
+    case MIZZENCORD_BAD_LENGTH: return "bad length";
+    case MIZZENCORD_UNKNOWN_KIND: return "unknown kind";
+    case MIZZENCORD_SPARE_SET: return "spare set";
+    case MIZZENCORD_NO_ROOM: return "no room";
+    case MIZZENCORD_BAD_CONTEXT: return "bad context";
+    default: return "no refusal";
+    }
+}
 
 #endif

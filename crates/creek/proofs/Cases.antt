@@ -21,12 +21,14 @@ use Rattle.creek.specs.Replies.{settlementReply, stableReplyDue, namedBy
 use Rattle.creek.specs.Calls.{badShop, freshRefusal, fresh, accept, step}
 use Rattle.creek.specs.History.{run, afterDueSteps}
 use Rattle.creek.specs.Showing.{registerRefusal, registerShown, placeRefusal, placeShown}
+use Rattle.creek.specs.Status.{statusRefusal, statusPlace, statusSettled, statusAwaited, statusExecuted, statusResponse}
 use Rattle.creek.specs.Demand.{mostUndos}
 use Rattle.creek.specs.examples.Notation.{Case, onRegisters, onBoard, answers, spreads, eventsAndClocks, numbers, driven}
 use Rattle.creek.specs.examples.Cases.{standing, worked, afterWorked, nineNineEight, cases}
 use Rattle.creek.specs.examples.Faults.{strongHeard, twiceChanged, overtaken, falling, overtaking, faults, reaching}
 use Rattle.creek.specs.examples.Answers.{requestFields, answerFields, fieldsTold, answerCases}
-use Rattle.creek.specs.examples.Answers.{registerAt, placeAt, counts, bothHeld, shownCases}
+use Rattle.creek.specs.examples.Answers.{registerAt, placeAt, counts, shopOf, bothHeld, shownCases}
+use Rattle.creek.specs.examples.Statuses.{statusAfter, statusCases}
 use Rattle.creek.specs.examples.Readings.{madeAndHeard, readings, sumAfter, moveReadings}
 
 pub edge-cases : map (λ (c : Case). c .computed) cases ≡ map (λ (c : Case). c .said) cases
@@ -52,7 +54,7 @@ answers-told = refl
 
 -- what each showing call shows
 pub shown-told : map (λ (c : Case). c .computed) shownCases ≡ map (λ (c : Case). c .said) shownCases
-unfolding shownCases bothHeld registerAt placeAt counts requestFields driven sameNumber badNumber sameOperation badOperation sameAsked
+unfolding shownCases bothHeld registerAt placeAt counts shopOf requestFields driven sameNumber badNumber sameOperation badOperation sameAsked
     badAsked sameWords sameContext allZero isEmpty namesFrom bit member join leave lackedWords difference subset lowestFrom lowest
     lowestLacking before sameRequest badContext offBoard added claimed amountMoved moved exec response replayOn replay lastEvent
     lastClock entered without atLeast made committing committingFound invokeRefusal deliverRefusal commitRefusal registers adjusted
@@ -60,6 +62,16 @@ unfolding shownCases bothHeld registerAt placeAt counts requestFields driven sam
     acceptedAnswer settlementReply stableReplyDue namedByRefusal answerOf acceptedAwaiting badShop fresh accept step run afterDueSteps
     registerRefusal registerShown placeRefusal placeShown
 shown-told = refl
+
+-- what a panel has of a request
+pub statuses-told : map (λ (c : Case). c .computed) statusCases ≡ map (λ (c : Case). c .said) statusCases
+unfolding statusCases statusAfter statusRefusal statusPlace statusSettled statusAwaited statusExecuted statusResponse sameNumber
+    badNumber badOperation badAsked sameWords sameContext allZero isEmpty namesFrom bit member join leave lackedWords difference subset
+    before sameOperation sameAsked sameRequest badContext offBoard added claimed exec response replayOn replay lastEvent lastClock
+    entered without atLeast made committing committingFound invokeRefusal deliverRefusal commitRefusal registers adjusted undone
+    undoRefusal executedNext executeRefusal refusal accepted responseOn responseIn executionMark executionReply undoReply
+    acceptedAnswer settlementReply stableReplyDue namedByRefusal answerOf acceptedAwaiting badShop fresh accept step run
+statuses-told = refl
 
 -- each reading chosen is what is computed
 pub readings-told : map (λ (c : Case). c .computed) readings ≡ map (λ (c : Case). c .said) readings

@@ -6,6 +6,7 @@ pub mod Replies
 pub mod Calls
 pub mod History
 pub mod Showing
+pub mod Status
 pub mod Demand
 pub mod StableReply
 pub mod Waiting

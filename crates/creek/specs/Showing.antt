@@ -7,7 +7,7 @@ use Rattle.request.specs.declared.Request.{Request}
 use Rattle.request.specs.Operations.{lastRegister}
 use Rattle.request.specs.Refusal as refused
 use Rattle.request.specs.Request.{noRequest}
-use Rattle.creek.specs.Plan.{order}
+use Rattle.creek.specs.Plan.{order, lastEvent}
 use Rattle.creek.specs.Execution.{registers, owed}
 use Rattle.creek.specs.Calls.{Replica}
 
@@ -38,6 +38,20 @@ executionsShown r = r .counters .executions
 
 abbrev pub owedShown : Replica → ℕ
 owedShown r = owed (r .book .execution)
+
+-- ---- the shop
+
+-- P
+abbrev pub panelsShown : Replica → ℕ
+panelsShown r = r .book .plan .panels
+
+-- the own panel
+abbrev pub ownShown : Replica → ℕ
+ownShown r = r .book .plan .own
+
+-- the own requests made, which is the event of the last one
+abbrev pub madeShown : Replica → ℕ
+madeShown r = lastEvent (r .book .plan)
 
 -- ---- the request at a place of the standing order, places counted from 1
 

@@ -2,6 +2,7 @@
 pub mod Notation
 pub mod Cases
 pub mod Answers
+pub mod Statuses
 pub mod Faults
 pub mod Readings
 pub mod Pairs

@@ -13,7 +13,7 @@ use Rattle.lending.proofs.Within.{within-record}
 use Rattle.lending.proofs.Values.{number, struct}
 use Rattle.lending.proofs.Reading.{Read}
 use Rattle.mizzencord.proofs.PanelParts.{committed-field, ordered-field, executed-field, stacked-field, commits-field}
-use Rattle.mizzencord.proofs.PanelParts.{counters-field, panels-field, own-field}
+use Rattle.mizzencord.proofs.PanelParts.{counters-field, panels-field, own-field, events-field}
 use Rattle.mizzencord.proofs.PanelWalk.{address}
 
 -- how far into a panel a field lies
@@ -89,6 +89,18 @@ panels-read = record {
   found = refl;
   within = λ 𝓤 H A W t p b o. record {
     cut = look-at 𝓤 H A W t T.the-type T′.the-laws panels-field (offset panels-field) refl refl (b, o) p (T.struct .as-values p) refl;
+  };
+}
+
+abbrev pub events-read : Read T.the-row T′.mir
+events-read = record {
+  field = events-field;
+  offset = offset events-field;
+  value = number w8;
+  of = λ p. p .events;
+  found = refl;
+  within = λ 𝓤 H A W t p b o. record {
+    cut = look-at 𝓤 H A W t T.the-type T′.the-laws events-field (offset events-field) refl refl (b, o) p (T.struct .as-values p) refl;
   };
 }
 

@@ -14,6 +14,7 @@ use intake::Receipt;
 use numbers::Number;
 use numbers::PanelNo;
 use request::Request;
+ghost use mathlib.Core.Path.{_≡_};
 ghost use Rattle.creek.specs.Book.{undo as undoCall, execute as executeCall, deliver as deliverCall, invoke as invokeCall, commit as commitCall};
 ghost use Rattle.replica.specs.Promises.{Fresh, Kept};
 ghost use Rattle.replica.specs.internal.Model.{Inv};
@@ -21,6 +22,7 @@ ghost use Rattle.due.specs.Due.{RunDue};
 ghost use Rattle.wire.specs.Reader.{readAt};
 ghost use Rattle.intake.specs.Intake.{Received};
 ghost use Rattle.mizzencord.specs.Memory.{memory, ran};
+ghost use Rattle.mizzencord.specs.Version.{version};
 
 // A panel's memory. Only this crate makes and changes one.
 #[repr(C)]
@@ -246,4 +248,15 @@ pub extern "C" fn mizzencord_run_due(p: &mut Panel) -> DueSteps
     counters::count_undos(&mut p.counters, done.undos);
     counters::count_executions(&mut p.counters, done.executions);
     done
+}
+
+// MIZZENCORD_VERSION of the header.
+const VERSION: u32 = 1;
+
+// The revision of the header that the library was built for.
+#[no_mangle]
+pub extern "C" fn mizzencord_version() -> u32
+    ensures { λ v. ⌜ v ≡ version ⌝ }
+{
+    VERSION
 }

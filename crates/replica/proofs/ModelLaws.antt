@@ -102,21 +102,25 @@ module _ (q : State) (inv : Inv q) where
       (omega arith) (omega (arith, length-order, length-drop (q .committed) (orderOf q))))
 
   -- the executed list is a start of the standing order
-  pub executed-follows : take (q .executed) (q .stack) ≡ take (q .executed) (q .order)
+  pub executed-start : take (q .executed) (boardOf q) ≡ take (q .executed) (orderOf q)
   unfolding model bookOf
+  executed-start =
+      let e = q .executed in
+      sym (take-at (take e (boardOf q)) (drop e (orderOf q)) e (length-take-le e (boardOf q) (omega (arith, inv .counts, length-board))))
+      ∙ ap (take e) (inv .sound .follows ∙ order-planned q)
+
+  -- and so are its slots
+  pub executed-follows : take (q .executed) (q .stack) ≡ take (q .executed) (q .order)
   executed-follows =
       let e = q .executed in
       let board : take e (boardOf q) ≡ requestsAt q (take e (q .stack)) =
       sym (map-take (requestOf q) e (boardSlots q)) ∙ ap (requestsAt q) (take-take e (q .stacked) (q .stack) (inv .counts .executed)) in
       let order : take e (orderOf q) ≡ requestsAt q (take e (q .order)) =
       sym (map-take (requestOf q) e (orderSlots q)) ∙ ap (requestsAt q) (take-take e (q .ordered) (q .order) (inv .counts .done)) in
-      let start : take e (boardOf q) ≡ take e (orderOf q) =
-      sym (take-at (take e (boardOf q)) (drop e (orderOf q)) e (length-take-le e (boardOf q) (omega (arith, inv .counts, length-board))))
-      ∙ ap (take e) (inv .sound .follows ∙ order-planned q) in
       let stack-slots = rw (take-take e (q .stacked) (q .stack) (inv .counts .executed)) at (all-take IsSlot e (boardSlots q) (inv .board-slots)) in
       let order-slots = rw (take-take e (q .ordered) (q .order) (inv .counts .done)) at (all-take IsSlot e (orderSlots q) (inv .order-slots)) in
       sym (slots-back q (take e (q .stack)) stack-slots)
-      ∙ ap (map slotIn) (sym board ∙ start ∙ order)
+      ∙ ap (map slotIn) (sym board ∙ executed-start ∙ order)
       ∙ slots-back q (take e (q .order)) order-slots
 
   pub order-is : order (bookOf q .plan) ≡ orderOf q

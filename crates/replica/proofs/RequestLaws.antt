@@ -61,7 +61,8 @@ module _ (p : State) (inv : Inv p) (n : Number) (good : GoodNumber mostPanels n)
   abbrev at : ℕ → Request
   at = requestAt (p .clocks) (p .askings) (p .contexts)
 
-  by-slot : All (λ t. hasNumber n (at t) ≡ eqb (slotOf n) t) (orderSlots p)
+  -- a request of the order has the number n exactly where it stands at n's slot
+  pub by-slot : All (λ t. hasNumber n (at t) ≡ eqb (slotOf n) t) (orderSlots p)
   by-slot = all-weaken (number-at (p .clocks) (p .askings) (p .contexts) n good) (orderSlots p) (inv .order-slots)
 
   -- the set of numbers held counts n's slot

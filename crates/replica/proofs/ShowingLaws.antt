@@ -14,7 +14,7 @@ use Rattle.request.specs.Operations.{lastRegister}
 use Rattle.request.specs.Refusal as refused
 use Rattle.creek.specs.Plan.{order}
 use Rattle.request.specs.Request.{noRequest}
-use Rattle.creek.specs.Showing.{registerRefusal, registerShown, requestsShown, commitsShown, owedShown}
+use Rattle.creek.specs.Showing.{registerRefusal, registerShown, requestsShown, commitsShown, owedShown, panelsShown, ownShown, madeShown}
 use Rattle.creek.specs.Showing.{placeRefusal, placeShown}
 use Rattle.replica.specs.State.{State}
 use Rattle.replica.specs.internal.Model.{orderSlots, orderOf, planOf, bookOf, model, Inv}
@@ -42,6 +42,20 @@ module _ (p : State) (inv : Inv p) where
   pub owed-are : (p .stacked - p .executed) + (p .ordered - p .executed) ≡ owedShown (model p)
   unfolding model
   owed-are = omega (arith, rollback-length p inv, todo-length p inv)
+
+  -- ---- the shop
+
+  pub panels-are : p .panels ≡ panelsShown (model p)
+  unfolding model bookOf planOf
+  panels-are = refl
+
+  pub own-is : p .own .0 ≡ ownShown (model p)
+  unfolding model bookOf planOf
+  own-is = refl
+
+  pub made-are : p .events ≡ madeShown (model p)
+  unfolding model bookOf
+  made-are = inv .events
 
   -- ---- registers
 

@@ -2,12 +2,13 @@
 use super::PlacedRequest;
 use super::RegisterValue;
 use counters::Counters;
+use numbers::PanelNo;
 use request::operations as operation;
 use request::refusal;
 use store::requests as stored;
-ghost use Rattle.creek.specs.Showing.{requestsShown, commitsShown, undosShown, executionsShown, owedShown};
+ghost use Rattle.creek.specs.Showing.{requestsShown, commitsShown, undosShown, executionsShown, owedShown, panelsShown, ownShown, madeShown};
 ghost use Rattle.replica.specs.Shown.{committedShown};
-ghost use Rattle.replica.specs.internal.Parts.{Asks, Shows, withOrdered, withCommitted, withCommits, withCounters, withOwed, RegisterKept, PlaceAsks, PlaceKept};
+ghost use Rattle.replica.specs.internal.Parts.{Asks, Shows, withOrdered, withCommitted, withCommits, withCounters, withOwed, withPanels, withOwn, withEvents, RegisterKept, PlaceAsks, PlaceKept};
 
 // The value of register k.
 pub fn register(registers: &[u32; 64], k: u8) -> RegisterValue
@@ -67,6 +68,27 @@ pub fn owed(ordered: usize, executed: usize, stacked: usize) -> usize
     ensures { λ n. ⌜ Shows (withOwed ordered executed stacked) owedShown n ⌝ }
 {
     (stacked - executed) + (ordered - executed)
+}
+
+// The number of panels of the shop.
+pub fn panels(panels: u8) -> u8
+    ensures { λ n. ⌜ Shows (withPanels panels) panelsShown n ⌝ }
+{
+    panels
+}
+
+// The own panel.
+pub fn own(own: PanelNo) -> u8
+    ensures { λ n. ⌜ Shows (withOwn own) ownShown n ⌝ }
+{
+    own.0
+}
+
+// The own requests made.
+pub fn made(events: u8) -> u8
+    ensures { λ n. ⌜ Shows (withEvents events) madeShown n ⌝ }
+{
+    events
 }
 
 // The request at a place of the standing order, places counted from 1.

@@ -16,7 +16,7 @@ use Rattle.creek.specs.Replies.{noMark, weakMark, tentativeMark, stableM
 use Rattle.creek.specs.Calls.{Replica, freshRefusal, fresh, answer}
 use Rattle.creek.specs.History.{run}
 use Rattle.creek.specs.Showing.{registerRefusal, registerShown, requestsShown, commitsShown, undosShown, executionsShown, owedShown}
-use Rattle.creek.specs.Showing.{placeRefusal, placeShown}
+use Rattle.creek.specs.Showing.{panelsShown, ownShown, madeShown, placeRefusal, placeShown}
 use Rattle.creek.specs.examples.Notation.{Case, case, read, setTo, add, claim, move, request, weak, strong, make, makeStrong, answers, driven}
 
 -- ---- every field of a request and of an answer
@@ -179,6 +179,10 @@ placeAt r place = placeRefusal r place ∷ requestFields (placeShown r place)
 unfoldable pub counts : Replica → List ℕ
 counts r = requestsShown r ∷ commitsShown r ∷ undosShown r ∷ executionsShown r ∷ owedShown r ∷ []
 
+-- panels, own panel, own requests made
+unfoldable pub shopOf : Replica → List ℕ
+shopOf r = panelsShown r ∷ ownShown r ∷ madeShown r ∷ []
+
 -- registers 0 and 63 are held: a weak request of panel 1 and an own strong one, carried out, and the second settled
 unfoldable pub bothHeld : Replica
 bothHeld = run (driven (fresh 2 0) (hear ∷ claiming ∷ [])) (commit (numbered 0 1) ∷ [])
@@ -201,4 +205,10 @@ shownCases =
     -- the counts of a fresh panel, and of one on which all five kinds of calls were accepted
     ∷ case (counts (fresh 2 0)) (0 ∷ 0 ∷ 0 ∷ 0 ∷ 0 ∷ [])
     ∷ case (counts (run (fresh 2 0) (overtakingCalls ++ commit (numbered 0 1) ∷ undo ∷ []))) (3 ∷ 1 ∷ 1 ∷ 2 ∷ 4 ∷ [])
+    -- the shop and the own requests: of a fresh panel, of a refused fresh, after a make, after one that is refused, and after one is heard
+    ∷ case (shopOf (fresh 3 2)) (3 ∷ 2 ∷ 0 ∷ [])
+    ∷ case (shopOf (fresh 3 3)) (1 ∷ 0 ∷ 0 ∷ [])
+    ∷ case (shopOf (run (fresh 3 2) (make 7 (read 0) ∷ []))) (3 ∷ 2 ∷ 1 ∷ [])
+    ∷ case (shopOf (run (fresh 3 2) (make 7 (read 0) ∷ make 8 (claim 0 0) ∷ []))) (3 ∷ 2 ∷ 1 ∷ [])
+    ∷ case (shopOf (run (fresh 3 2) (make 7 (read 0) ∷ hear ∷ makeStrong 8 (read 0) ∷ []))) (3 ∷ 2 ∷ 2 ∷ [])
     ∷ []

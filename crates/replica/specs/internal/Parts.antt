@@ -95,12 +95,12 @@ openedBy committed ordered executed stacked commits clock panels events held kno
 
 -- ---- the showing calls
 
--- p with those counts, settlements and counters
-abbrev pub withNumbers : (committed ordered executed stacked commits : ℕ) → Counters → State → State
-withNumbers committed ordered executed stacked commits counters p = record {
+-- p with those own requests, counts, settlements and counters
+abbrev pub withNumbers : (events committed ordered executed stacked commits : ℕ) → Counters → State → State
+withNumbers events committed ordered executed stacked commits counters p = record {
   panels = p .panels;
   own = p .own;
-  events = p .events;
+  events = events;
   clock = p .clock;
   committed = committed;
   ordered = ordered;
@@ -123,19 +123,28 @@ withNumbers committed ordered executed stacked commits counters p = record {
 }
 
 abbrev pub withOrdered : ℕ → State → State
-withOrdered ordered p = withNumbers (p .committed) ordered (p .executed) (p .stacked) (p .commits) (p .counters) p
+withOrdered ordered p = withNumbers (p .events) (p .committed) ordered (p .executed) (p .stacked) (p .commits) (p .counters) p
 
 abbrev pub withCommitted : ℕ → State → State
-withCommitted committed p = withNumbers committed (p .ordered) (p .executed) (p .stacked) (p .commits) (p .counters) p
+withCommitted committed p = withNumbers (p .events) committed (p .ordered) (p .executed) (p .stacked) (p .commits) (p .counters) p
 
 abbrev pub withCommits : ℕ → State → State
-withCommits commits p = withNumbers (p .committed) (p .ordered) (p .executed) (p .stacked) commits (p .counters) p
+withCommits commits p = withNumbers (p .events) (p .committed) (p .ordered) (p .executed) (p .stacked) commits (p .counters) p
 
 abbrev pub withCounters : Counters → State → State
-withCounters counters p = withNumbers (p .committed) (p .ordered) (p .executed) (p .stacked) (p .commits) counters p
+withCounters counters p = withNumbers (p .events) (p .committed) (p .ordered) (p .executed) (p .stacked) (p .commits) counters p
 
 abbrev pub withOwed : ℕ → ℕ → ℕ → State → State
-withOwed ordered executed stacked p = withNumbers (p .committed) ordered executed stacked (p .commits) (p .counters) p
+withOwed ordered executed stacked p = withNumbers (p .events) (p .committed) ordered executed stacked (p .commits) (p .counters) p
+
+abbrev pub withPanels : ℕ → State → State
+withPanels panels p = standing panels (p .own) (p .committed) p
+
+abbrev pub withOwn : PanelNo → State → State
+withOwn own p = standing (p .panels) own (p .committed) p
+
+abbrev pub withEvents : ℕ → State → State
+withEvents events p = withNumbers events (p .committed) (p .ordered) (p .executed) (p .stacked) (p .commits) (p .counters) p
 
 -- n is what is shown of every panel with those parts
 pub record Shows (parts : State → State) (show : Replica → ℕ) (n : ℕ) : Type 0 where

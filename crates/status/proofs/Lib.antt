@@ -1,0 +1,3 @@
+-- Laws of the status of a request.
+pub mod LeadingLaws
+pub mod StatusLaws
