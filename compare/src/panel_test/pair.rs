@@ -138,11 +138,11 @@ impl<W: Watched> Pair<W> {
             _ => {}
         }
         let expected = Outcome::of(&mut *self.own, step);
-        let twins = self.twins(step);
+        let twins = self.twins(step)?;
         same("the answer", &lent(&mut *self.library, step)?, &expected)?;
         same("the answer on other memory", &twins, &expected)?;
         if let Some(copy) = &mut self.copy {
-            same("the answer of a copy", &Outcome::of(&mut **copy, step), &expected)?;
+            same("the answer of a copy", &lent(&mut **copy, step)?, &expected)?;
         }
         tally.count(step, &expected);
         self.watch(&expected, tally)?;
@@ -156,12 +156,12 @@ impl<W: Watched> Pair<W> {
 
     /// What the twin gives back; fresh makes it on memory that holds other bits than
     /// the library's panel, which has not taken the step.
-    fn twins(&mut self, step: &Step) -> Outcome {
-        let Step::Fresh(panels, own) = step else { return Outcome::of(&mut *self.twin, step) };
+    fn twins(&mut self, step: &Step) -> Result<Outcome, String> {
+        let Step::Fresh(panels, own) = step else { return lent(&mut *self.twin, step) };
         let start = Start::inverted_from(self.library.words(), self.shown % 2 == 1);
         let (refusal, twin) = boxed(&start, *panels, *own);
         self.twin = twin;
-        Outcome::Fresh(refusal)
+        Ok(Outcome::Fresh(refusal))
     }
 
     /// What the memory must be like after a call.
