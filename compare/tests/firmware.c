@@ -143,7 +143,8 @@ static void check_status(const station *s, uint8_t own, uint8_t event) {
     mizzencord_status status = mizzencord_request_status(&s->board, (mizzencord_number){own, event});
     shown reply = s->replies[event];
     expect(status.refusal == MIZZENCORD_ACCEPTED && status.executed, "an idle panel has executed its requests");
-    expect(status.awaited == (reply.mark != MIZZENCORD_REPLY_WEAK && reply.mark != MIZZENCORD_REPLY_STABLE), "awaited until the last reply");
+    bool last = reply.mark == MIZZENCORD_REPLY_WEAK || reply.mark == MIZZENCORD_REPLY_STABLE;
+    expect(status.awaited != last, "awaited until the last reply");
     if (reply.mark == MIZZENCORD_REPLY_STABLE) expect(status.settled && status.response == reply.response, "a status has the stable reply");
 }
 
