@@ -183,9 +183,9 @@ fn planted_faults_are_found_and_shrunk() {
 #[test]
 fn bytes_that_fresh_leaves_are_found() {
     let (small, told) = least::<LEFT>();
-    assert!(small.steps.is_empty() && told.contains("by what the memory held before fresh"), "{told}");
+    assert!(small.steps.is_empty() && told.contains("what was there before fresh"), "{told}");
     let (small, told) = least::<LEFT_LATE>();
-    assert!(small.steps.len() == 1 && told.contains("by what the memory held before fresh"), "{told}");
+    assert!(small.steps.len() == 1 && told.contains("what was there before fresh"), "{told}");
 }
 
 #[test]
