@@ -125,7 +125,9 @@ impl<W: Watched> Pair<W> {
         let (here, there) = (self.library.words(), self.twin.words());
         match here.iter().zip(there).position(|(one, other)| one != other) {
             None => Ok(()),
-            Some(word) => Err(format!("the panel's word {word}, by where it lies or what was there before fresh")),
+            Some(word) => {
+                Err(format!("the panel's word {word}, by where it lies or what was there before fresh"))
+            }
         }
     }
 
