@@ -59,6 +59,7 @@ fn run(command: &mut Command) {
     assert!(status.success(), "{command:?} failed");
 }
 
+/// The library may have any name, and that of the tools stands beside it.
 fn link_proved(crate_folder: &Path) {
     println!("cargo:rerun-if-env-changed=PROVED_LIBRARY");
     if env::var_os("CARGO_FEATURE_PROVED").is_none() {
@@ -67,9 +68,10 @@ fn link_proved(crate_folder: &Path) {
     let beside = crate_folder.join("../target/staticlib/libmizzencord.a");
     let library = env::var_os("PROVED_LIBRARY").map_or(beside, PathBuf::from);
     let folder = library.parent().expect("a library stands in a folder");
+    let name = library.file_name().expect("a library has a name").to_str().expect("in UTF-8");
     println!("cargo:rustc-link-search=native={}", folder.display());
-    for name in ["mizzencord", "mizzencord_tools"] {
-        println!("cargo:rerun-if-changed={}", folder.join(format!("lib{name}.a")).display());
-        println!("cargo:rustc-link-lib=static={name}");
+    for name in [name, "libmizzencord_tools.a"] {
+        println!("cargo:rerun-if-changed={}", folder.join(name).display());
+        println!("cargo:rustc-link-lib=static:+verbatim={name}");
     }
 }

@@ -34,20 +34,22 @@ mizzencord_receipt mizzencord_receive(mizzencord_panel *panel, const uint8_t *by
     mizzencord_receipt receipt = {0};
     head found = head_at(bytes, length, at);
     if (seldom(found.kind == 0)) {
-        receipt.answer.refusal = found.refusal;
+        receipt.reply.refusal = found.refusal;
         return receipt;
     }
+    receipt.number = number_at(bytes + at);
+    receipt.kind = (uint16_t)found.kind;
     receipt.taken = found.length;
     if (found.kind == SETTLEMENT) {
-        settlement settled = settle(state_of(panel), number_at(bytes + at));
-        receipt.answer.response = settled.response;
-        receipt.answer.number = settled.missing;
-        receipt.answer.refusal = settled.refusal;
-        receipt.answer.mark = settled.mark;
+        settlement settled = settle(state_of(panel), receipt.number);
+        receipt.reply.response = settled.response;
+        receipt.reply.number = settled.missing;
+        receipt.reply.refusal = settled.refusal;
+        receipt.reply.mark = settled.mark;
     } else {
         mizzencord_request request;
         request_at(bytes + at, found.kind, &request);
-        receipt.answer.refusal = hear(state_of(panel), &request);
+        receipt.reply.refusal = hear(state_of(panel), &request);
     }
     return receipt;
 }

@@ -6,10 +6,9 @@
 uint8_t mizzencord_fresh(mizzencord_panel *panel, uint8_t panels, uint8_t own) {
     state *s = state_of(panel);
     bool bad = panels < 1 || panels > PANELS || own >= panels;
-    memset(s, 0, offsetof(state, order));
+    memset(panel, 0, sizeof *panel);
     s->panels = bad ? 1 : panels;
     s->own = bad ? 0 : own;
-    ((uint8_t *)panel)[MIZZENCORD_PANEL_SIZE - 1] = 0; /* fresh has the memory up to its end */
     return bad ? MIZZENCORD_BAD_SHOP : MIZZENCORD_ACCEPTED;
 }
 

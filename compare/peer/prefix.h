@@ -18,6 +18,11 @@
 #define mizzencord_executions peer_executions
 #define mizzencord_owed peer_owed
 #define mizzencord_at_place peer_at_place
+#define mizzencord_panels peer_panels
+#define mizzencord_own peer_own
+#define mizzencord_made peer_made
+#define mizzencord_request_status peer_request_status
+#define mizzencord_version peer_version
 #define mizzencord_read peer_read
 #define mizzencord_write peer_write
 #define mizzencord_print peer_print

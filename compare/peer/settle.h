@@ -70,7 +70,7 @@ static inline settlement stable_reply(state *s, uint32_t slot) {
     uint32_t event = event_bit(slot);
     if (panel_of(slot) != s->own || !(s->awaiting >> event & 1) || s->committed > s->executed) return refused(MIZZENCORD_ACCEPTED);
     s->awaiting &= ~(UINT64_C(1) << event);
-    return (settlement){.mark = MIZZENCORD_REPLY_STABLE, .response = s->responses[event]};
+    return (settlement){.mark = MIZZENCORD_REPLY_STABLE, .response = s->responses[slot]};
 }
 
 /* The whole context is known: moves what of it is tentative, and the request behind it. */

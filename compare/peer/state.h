@@ -26,10 +26,10 @@ typedef struct {
     uint64_t awaiting; /* own requests that await a reply, by event */
     number_set held, known, settled;
     uint32_t registers[MIZZENCORD_REGISTERS];
-    uint32_t responses[EVENTS]; /* the last tentative response to an own strong request */
-    /* What follows is only looked at where a request is held, or stacked. */
+    /* What follows is only looked at where a request is held, executed or stacked. */
     uint16_t order[REQUESTS], stack[REQUESTS];
     uint64_t saved[REQUESTS]; /* what undoing takes, by place of the stack */
+    uint32_t responses[REQUESTS]; /* of the last execution, by slot */
     uint32_t clocks[REQUESTS];
     mizzencord_asked asked[REQUESTS];
     number_set contexts[REQUESTS]; /* of strong requests */

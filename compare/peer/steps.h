@@ -5,13 +5,10 @@
 #include "operation.h"
 
 /* The mark of a reply to the own request that was executed at a place, and whether it waits on. */
-static inline uint8_t mark_own(state *s, uint32_t slot, uint32_t place, uint32_t response) {
+static inline uint8_t mark_own(state *s, uint32_t slot, uint32_t place) {
     uint64_t bit = UINT64_C(1) << event_bit(slot);
     if (!(s->awaiting & bit)) return MIZZENCORD_REPLY_TO_NOBODY;
-    if (s->asked[slot].strong && place >= s->committed) {
-        s->responses[event_bit(slot)] = response;
-        return MIZZENCORD_REPLY_TENTATIVE;
-    }
+    if (s->asked[slot].strong && place >= s->committed) return MIZZENCORD_REPLY_TENTATIVE;
     s->awaiting &= ~bit;
     return s->asked[slot].strong ? MIZZENCORD_REPLY_STABLE : MIZZENCORD_REPLY_WEAK;
 }
@@ -31,7 +28,8 @@ static inline mizzencord_reply execute_next(state *s) {
     s->stacked = s->executed;
     s->executions++;
     uint32_t response = execute_one(s->registers, s->asked[slot], &s->saved[place]);
-    uint8_t mark = panel_of(slot) == s->own ? mark_own(s, slot, place, response) : MIZZENCORD_REPLY_TO_NOBODY;
+    s->responses[slot] = response;
+    uint8_t mark = panel_of(slot) == s->own ? mark_own(s, slot, place) : MIZZENCORD_REPLY_TO_NOBODY;
     return (mizzencord_reply){.response = response, .number = number_of(slot), .mark = mark};
 }
 
@@ -48,8 +46,9 @@ static inline uint64_t execute_all(state *s, mizzencord_reply *replies) {
     for (uint32_t place = s->executed; place < ordered; place++) {
         uint32_t slot = s->order[place], response = execute_one(s->registers, s->asked[slot], &s->saved[place]);
         s->stack[place] = (uint16_t)slot;
+        s->responses[slot] = response;
         if (!seldom(panel_of(slot) == own)) continue;
-        uint8_t mark = mark_own(s, slot, place, response);
+        uint8_t mark = mark_own(s, slot, place);
         if (mark != MIZZENCORD_REPLY_TO_NOBODY)
             replies[count++] = (mizzencord_reply){.response = response, .number = number_of(slot), .mark = mark};
     }

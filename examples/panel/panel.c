@@ -16,23 +16,13 @@ static station stations[PANELS];
 static uint8_t bus[BUS_BYTES];
 static size_t bus_length;
 
-static const char *const refusals[] = {
-    [MIZZENCORD_ACCEPTED] = "accepted", [MIZZENCORD_BAD_SHOP] = "bad shop", [MIZZENCORD_BAD_NUMBER] = "bad number",
-    [MIZZENCORD_BAD_OPERATION] = "bad operation", [MIZZENCORD_OWN_ECHO] = "own echo", [MIZZENCORD_SHIFT_FULL] = "shift full",
-    [MIZZENCORD_HELD_ALREADY] = "held already", [MIZZENCORD_NUMBER_CLASH] = "number clash", [MIZZENCORD_NOT_HERE] = "not here",
-    [MIZZENCORD_WEAK] = "weak", [MIZZENCORD_SETTLED_ALREADY] = "settled already", [MIZZENCORD_WAITS] = "waits",
-    [MIZZENCORD_NOTHING_TO_UNDO] = "nothing to undo", [MIZZENCORD_UNDO_FIRST] = "undo first",
-    [MIZZENCORD_NOTHING_TO_DO] = "nothing to do", [MIZZENCORD_CUT_SHORT] = "cut short", [MIZZENCORD_BAD_LENGTH] = "bad length",
-    [MIZZENCORD_UNKNOWN_KIND] = "unknown kind", [MIZZENCORD_SPARE_SET] = "spare set", [MIZZENCORD_NO_ROOM] = "no room",
-    [MIZZENCORD_BAD_CONTEXT] = "bad context",
-};
 static const char *const marks[] = {"unawaited", "weak", "tentative", "stable"};
 
 /* Puts a message at the end of the bus. */
 static void spread(bool settles, mizzencord_request request) {
     mizzencord_message message = {.request = request, .settles = settles};
     mizzencord_written written = mizzencord_write(message, bus + bus_length, sizeof bus - bus_length);
-    if (written.refusal != MIZZENCORD_ACCEPTED) printf("the bus: %s\n", refusals[written.refusal]);
+    if (written.refusal != MIZZENCORD_ACCEPTED) printf("the bus: %s\n", mizzencord_refusal_word(written.refusal));
     bus_length += written.bytes;
 }
 
@@ -44,7 +34,7 @@ static void make(int panel, mizzencord_asked asked, uint32_t clock) {
     mizzencord_invocation invocation = {asked, clock};
     mizzencord_answer answer = mizzencord_invoke(&stations[panel].board, invocation);
     if (answer.refusal != MIZZENCORD_ACCEPTED) {
-        printf("panel %d cannot make it: %s\n", panel, refusals[answer.refusal]);
+        printf("panel %d cannot make it: %s\n", panel, mizzencord_refusal_word(answer.refusal));
         return;
     }
     mizzencord_number number = answer.request.number;
@@ -54,7 +44,7 @@ static void make(int panel, mizzencord_asked asked, uint32_t clock) {
 
 static void settle(int panel, mizzencord_number number) {
     mizzencord_answer answer = mizzencord_commit(&stations[panel].board, number);
-    printf("panel %d settles %d/%d: %s\n", panel, number.panel, number.event, refusals[answer.refusal]);
+    printf("panel %d settles %d/%d: %s\n", panel, number.panel, number.event, mizzencord_refusal_word(answer.refusal));
     if (answer.refusal != MIZZENCORD_ACCEPTED) return;
     if (answer.mark != MIZZENCORD_REPLY_TO_NOBODY) print_reply(panel, number, answer.response, answer.mark);
     spread(true, (mizzencord_request){.number = number});
@@ -65,13 +55,12 @@ static void settle(int panel, mizzencord_number number) {
 static void listen(int panel) {
     station *here = &stations[panel];
     for (;;) {
-        mizzencord_number about = mizzencord_read(bus, bus_length, here->heard).message.request.number;
         mizzencord_receipt got = mizzencord_receive(&here->board, bus, bus_length, here->heard);
         if (got.taken == 0) return; /* the end, or bytes that are no message */
         here->heard += got.taken;
-        printf("panel %d receives %" PRIu64 " bytes about %d/%d: %s\n", panel, got.taken, about.panel, about.event,
-               refusals[got.answer.refusal]);
-        if (got.answer.mark != MIZZENCORD_REPLY_TO_NOBODY) print_reply(panel, about, got.answer.response, got.answer.mark);
+        printf("panel %d receives %" PRIu32 " bytes about %d/%d: %s\n", panel, got.taken, got.number.panel, got.number.event,
+               mizzencord_refusal_word(got.reply.refusal));
+        if (got.reply.mark != MIZZENCORD_REPLY_TO_NOBODY) print_reply(panel, got.number, got.reply.response, got.reply.mark);
     }
 }
 

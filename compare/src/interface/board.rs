@@ -1,5 +1,5 @@
-//! What is compared of the functions over bytes alone, as docs/CALLS.md
-//! describes them.
+//! What is compared of the functions without a panel: those over bytes alone, as
+//! docs/CALLS.md describes them, and the revision.
 
 use crate::interface::header::*;
 use crate::replica::calls;
@@ -11,6 +11,11 @@ use crate::replica::wire::{self, Parsed};
 pub const MOST_PRINTED: usize = 438_473;
 
 pub trait Board {
+    /// The revision of the header that it was built for.
+    fn version(&self) -> u32 {
+        VERSION
+    }
+
     fn print(&self, input: &[u8], out: &mut [u8]) -> usize;
     fn run(&self, calls: &[u8], out: &mut [u8]) -> Ran;
     fn read(&self, bytes: &[u8], at: usize) -> Reading;

@@ -25,6 +25,10 @@ pub trait Component {
     fn executions(&self) -> u32;
     fn owed(&self) -> usize;
     fn at_place(&self, place: usize) -> Placed;
+    fn panels(&self) -> u8;
+    fn own(&self) -> u8;
+    fn made(&self) -> u8;
+    fn request_status(&self, number: Number) -> Status;
 }
 
 /// The panel of this crate.
@@ -54,6 +58,13 @@ fn told(answer: panel::Answer) -> Answer {
     Answer { request: (&request).into(), response, number: number.into(), refusal, mark }
 }
 
+/// An answer to which nothing is spread.
+#[inline]
+fn reply(answer: panel::Answer) -> Reply {
+    let panel::Answer { refusal, number, response, mark, .. } = answer;
+    Reply { response, number: number.into(), mark, refusal }
+}
+
 impl Component for OwnPanel {
     fn fresh(&mut self, panels: u8, own: u8) -> u8 {
         let (refusal, panel) = panel::Panel::fresh(panels, own);
@@ -75,16 +86,20 @@ impl Component for OwnPanel {
     }
 
     fn receive(&mut self, bytes: &[u8], at: usize) -> Receipt {
-        match wire::parse(bytes, at) {
-            Parsed::Message(Message::Request(request), taken) => {
-                Receipt { taken: taken as u64, answer: told(self.0.hear(&request)) }
+        let (message, taken) = match wire::parse(bytes, at) {
+            Parsed::Message(message, taken) => (message, taken as u32),
+            Parsed::End => return Receipt::default(),
+            Parsed::Refused(refusal) => {
+                let reply = Reply { refusal, ..Reply::default() };
+                return Receipt { reply, ..Receipt::default() };
             }
-            Parsed::Message(Message::Settlement(number), taken) => {
-                Receipt { taken: taken as u64, answer: told(self.0.settle(number)) }
-            }
-            Parsed::End => Receipt::default(),
-            Parsed::Refused(refusal) => Receipt { taken: 0, answer: Answer { refusal, ..Answer::default() } },
-        }
+        };
+        let answer = match &message {
+            Message::Request(request) => self.0.hear(request),
+            Message::Settlement(number) => self.0.settle(*number),
+        };
+        let number = message.number().into();
+        Receipt { reply: reply(answer), number, kind: message.kind(), taken }
     }
 
     fn undo(&mut self) -> Answer {
@@ -140,5 +155,24 @@ impl Component for OwnPanel {
     fn at_place(&self, place: usize) -> Placed {
         let panel::RequestAnswer { refusal, request } = self.0.request_at(place);
         Placed { refusal, request: (&request).into() }
+    }
+
+    fn panels(&self) -> u8 {
+        self.0.panels()
+    }
+
+    fn own(&self) -> u8 {
+        self.0.own()
+    }
+
+    fn made(&self) -> u8 {
+        self.0.made()
+    }
+
+    fn request_status(&self, number: Number) -> Status {
+        let panel::StatusAnswer { refusal, place, settled, awaited, executed, response } =
+            self.0.status(number.into());
+        let [settled, awaited, executed] = [settled, awaited, executed].map(u8::from);
+        Status { response, place: place as u32, settled, awaited, executed, refusal }
     }
 }

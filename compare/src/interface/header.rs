@@ -8,6 +8,9 @@ pub const MOST_REPLIES: usize = 64;
 /// The bytes of a panel.
 pub const PANEL_SIZE: usize = 47_672;
 
+/// The revision of the header.
+pub const VERSION: u32 = 1;
+
 #[repr(C)]
 #[derive(Clone, Copy, Debug, Default, PartialEq, Eq)]
 pub struct Number {
@@ -88,14 +91,7 @@ pub struct Written {
     pub refusal: u8,
 }
 
-#[repr(C)]
-#[derive(Clone, Copy, Debug, Default, PartialEq, Eq)]
-pub struct Receipt {
-    pub answer: Answer,
-    pub taken: u64,
-}
-
-/// Its refusal is 0.
+/// An answer without its request.
 #[repr(C)]
 #[derive(Clone, Copy, Debug, Default, PartialEq, Eq)]
 pub struct Reply {
@@ -103,6 +99,16 @@ pub struct Reply {
     pub number: Number,
     pub mark: u8,
     pub refusal: u8,
+}
+
+#[repr(C)]
+#[derive(Clone, Copy, Debug, Default, PartialEq, Eq)]
+pub struct Receipt {
+    pub reply: Reply,
+    /// The number and the kind of the message that was read.
+    pub number: Number,
+    pub kind: u16,
+    pub taken: u32,
 }
 
 #[repr(C)]
@@ -136,6 +142,17 @@ pub struct Placed {
 
 #[repr(C)]
 #[derive(Clone, Copy, Debug, Default, PartialEq, Eq)]
+pub struct Status {
+    pub response: u32,
+    pub place: u32,
+    pub settled: u8,
+    pub awaited: u8,
+    pub executed: u8,
+    pub refusal: u8,
+}
+
+#[repr(C)]
+#[derive(Clone, Copy, Debug, Default, PartialEq, Eq)]
 pub struct Ran {
     pub ran: u64,
     pub refusal: u8,
@@ -151,11 +168,12 @@ const _: () = {
     assert!(size_of::<Message>() == 88);
     assert!(size_of::<Reading>() == 104);
     assert!(size_of::<Written>() == 16);
-    assert!(size_of::<Receipt>() == 96);
     assert!(size_of::<Reply>() == 8);
+    assert!(size_of::<Receipt>() == 16);
     assert!(size_of::<Due>() == 528);
     assert!(size_of::<Value>() == 8);
     assert!(size_of::<Placed>() == 88);
+    assert!(size_of::<Status>() == 12);
     assert!(size_of::<Ran>() == 16);
 };
 

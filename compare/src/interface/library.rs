@@ -68,6 +68,12 @@ functions! {
     executions(panel: *const u64) -> u32;
     owed(panel: *const u64) -> usize;
     at_place(panel: *const u64, place: usize) -> Placed;
+    panels(panel: *const u64) -> u8;
+    own(panel: *const u64) -> u8;
+    made(panel: *const u64) -> u8;
+    request_status(panel: *const u64, number: Number) -> Status;
+
+    version() -> u32;
 
     read(bytes: *const u8, length: usize, at: usize) -> Reading;
     write(message: Message, out: *mut u8, length: usize) -> Written;
@@ -78,6 +84,10 @@ functions! {
 // Safe, since the pointers and lengths are those of slices, and a library
 // writes the lent bytes alone.
 impl<L: Library> Board for L {
+    fn version(&self) -> u32 {
+        unsafe { L::version() }
+    }
+
     fn print(&self, input: &[u8], out: &mut [u8]) -> usize {
         unsafe { L::print(input.as_ptr(), input.len(), out.as_mut_ptr(), out.len()) }
     }

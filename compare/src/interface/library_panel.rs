@@ -116,6 +116,22 @@ impl<L: Library> Component for Panel<L> {
     fn at_place(&self, place: usize) -> Placed {
         unsafe { L::at_place(self.at(), place) }
     }
+
+    fn panels(&self) -> u8 {
+        unsafe { L::panels(self.at()) }
+    }
+
+    fn own(&self) -> u8 {
+        unsafe { L::own(self.at()) }
+    }
+
+    fn made(&self) -> u8 {
+        unsafe { L::made(self.at()) }
+    }
+
+    fn request_status(&self, number: Number) -> Status {
+        unsafe { L::request_status(self.at(), number) }
+    }
 }
 
 impl<L: Library> Watched for Panel<L> {

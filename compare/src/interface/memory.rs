@@ -35,6 +35,15 @@ impl Start {
             Fill::Left(words) => words.clone(),
         }
     }
+
+    /// Memory of which every bit is another, at a place that is odd where this is not.
+    pub fn inverted(&self) -> Start {
+        Start::inverted_from(&self.words(), !self.odd)
+    }
+
+    pub fn inverted_from(words: &[u64], odd: bool) -> Start {
+        Start { fill: Fill::Left(words.iter().map(|word| !word).collect()), odd }
+    }
 }
 
 pub trait Watched: Component + Sized {

@@ -43,7 +43,7 @@ impl PanelCase {
                 return Some(Found { after: at + 1, told });
             }
         }
-        let shown = pairs.iter_mut().find_map(|pair| pair.show(tally).err());
+        let shown = pairs.iter_mut().find_map(|pair| pair.show_all(tally).err());
         shown.map(|told| Found { after: self.steps.len(), told })
     }
 

@@ -55,7 +55,7 @@ pub fn compare<W: Watched>(seed: u64, calls: usize, tell: &mut dyn FnMut(usize))
 pub fn soak<W: Watched>(seed: u64, calls: usize, tell: &mut dyn FnMut(usize)) -> Result<PanelTally, Told> {
     let mut random = Random::new(seed);
     let mut tally = PanelTally::default();
-    let mut panel = [Pair::<W>::fresh(&Start::ZEROS, (1, 0), SOAKED_BETWEEN)?];
+    let mut panel = [first_panel::<W>(&Start::ZEROS, (1, 0), SOAKED_BETWEEN)?];
     while tally.calls < calls {
         let case = soaked(&mut random, panel[0].words());
         let (panels, own) = case.shops[0];
@@ -67,6 +67,11 @@ pub fn soak<W: Watched>(seed: u64, calls: usize, tell: &mut dyn FnMut(usize)) ->
         tell(tally.calls);
     }
     Ok(tally)
+}
+
+/// The panel that many shifts are driven on.
+fn first_panel<W: Watched>(start: &Start, shop: (u8, u8), rest: usize) -> Result<Pair<W>, Told> {
+    Pair::fresh(start, shop, rest).map_err(|told| format!("panel at its first fresh: {told}"))
 }
 
 /// A shift that begins on what the one before left.
@@ -90,19 +95,15 @@ fn soaked_told<W: Watched>(case: &PanelCase, found: &Found, shifts: usize) -> To
 }
 
 /// Fresh for all numbers of panels and own panels, good or bad, one after the
-/// other on one memory, each with one call after it; and that it writes the last
-/// byte of a panel.
+/// other on one memory, each with one call after it.
 pub fn every_fresh<W: Watched>(tally: &mut PanelTally) -> Result<(), Told> {
-    let mut panel = [Pair::<W>::fresh(&Start { fill: Fill::Byte(0xaa), odd: true }, (8, 7), 0)?];
+    let mut panel = [first_panel::<W>(&Start { fill: Fill::Byte(0xaa), odd: true }, (8, 7), 0)?];
     for shop in 0..=u16::MAX {
         let [panels, own] = shop.to_le_bytes();
         let steps = vec![(0, Step::Fresh(panels, own)), (0, Step::Call(first_call()))];
         let case = PanelCase { start: Start::ZEROS, shops: vec![(1, 0)], steps };
         if let Some(found) = case.run_on(&mut panel, tally) {
             return Err(soaked_told::<W>(&case, &found, tally.shifts));
-        }
-        if panels < 10 && own < 10 && last_bytes::<W>(panels, own).is_some_and(|[one, other]| one != other) {
-            return Err(format!("panel's last byte: fresh {panels} {own} does not write it"));
         }
     }
     Ok(())
@@ -111,13 +112,4 @@ pub fn every_fresh<W: Watched>(tally: &mut PanelTally) -> Result<(), Told> {
 /// A call that every fresh panel accepts and whose answer has its number.
 fn first_call() -> Call {
     Call::Make(Operation::new(READ, 63, 0, 0), true, Clock(7))
-}
-
-/// The last byte after fresh on two memories whose bytes all differ.
-fn last_bytes<W: Watched>(panels: u8, own: u8) -> Option<[u8; 2]> {
-    let last = |byte: u8| {
-        let (_, panel) = W::fresh_on(&Start { fill: Fill::Byte(byte), odd: false }, panels, own);
-        panel.words().last().map(|word| word.to_ne_bytes()[7])
-    };
-    Some([last(0xaa)?, last(0x55)?])
 }

@@ -9,7 +9,7 @@ use crate::interface::memory::{Start, Watched};
 use crate::panel_test::tally::PanelTally;
 use crate::replica::call::Call;
 use crate::replica::refusal::ACCEPTED;
-use crate::replica::request::{self, REGISTERS, REQUESTS};
+use crate::replica::request::{self, EVENTS, REGISTERS, REQUESTS};
 
 /// What is done with a panel.
 #[derive(Clone, Debug, PartialEq, Eq)]
@@ -65,7 +65,7 @@ impl Outcome {
     fn changes_nothing(&self) -> bool {
         match self {
             Outcome::Answer(answer) => answer.refusal != ACCEPTED,
-            Outcome::Receipt(receipt) => receipt.taken == 0 || receipt.answer.refusal != ACCEPTED,
+            Outcome::Receipt(receipt) => receipt.taken == 0 || receipt.reply.refusal != ACCEPTED,
             Outcome::Nothing | Outcome::Fresh(_) | Outcome::Due(_) => false,
         }
     }
@@ -84,43 +84,67 @@ fn handed_over(request: &request::Request, panel: &impl Component) -> Request {
 const SHOWN_EVERY: usize = 8;
 const MANY: usize = 64;
 
+/// The panels whose numbers have their status shown in turn, of which the last are
+/// in no shop.
+const STATUS_PANELS: [u8; 10] = [0, 1, 2, 3, 4, 5, 6, 7, 8, u8::MAX];
+
+/// The panels are too large for a stack that has several.
 pub struct Pair<W> {
-    library: W,
-    copy: Option<W>,
-    own: OwnPanel,
+    library: Box<W>,
+    /// Made on memory that held other bits, and given every call too.
+    twin: Box<W>,
+    copy: Option<Box<W>>,
+    own: Box<OwnPanel>,
     not_shown: usize,
     /// How many calls pass until the panel is shown, at least.
     rest: usize,
+    /// How often it was shown.
+    shown: usize,
 }
 
 impl<W: Watched> Pair<W> {
     /// Both made by fresh, or what is different.
     pub fn fresh(start: &Start, (panels, own): (u8, u8), rest: usize) -> Result<Pair<W>, String> {
-        let (refusal, mut library) = W::fresh_on(start, panels, own);
-        let (expected, own) = OwnPanel::fresh_on(start, panels, own);
+        let (refusal, mut library) = boxed::<W>(start, panels, own);
+        let (_, twin) = boxed::<W>(&start.inverted(), panels, own);
+        let (expected, own) = boxed::<OwnPanel>(start, panels, own);
         library.note();
-        let pair = Pair { library, copy: None, own, not_shown: 0, rest };
+        let pair = Pair { library, twin, copy: None, own, not_shown: 0, rest, shown: 0 };
         if refusal != expected {
             return Err(format!("fresh's refusal\n  library: {refusal}\n  handwritten: {expected}"));
         }
         if pair.library.has_strayed() {
             return Err("bytes beside the panel, written by fresh".into());
         }
+        pair.same_bytes()?;
         Ok(pair)
+    }
+
+    /// The bytes of a panel come from fresh and the calls alone.
+    fn same_bytes(&self) -> Result<(), String> {
+        let (here, there) = (self.library.words(), self.twin.words());
+        match here.iter().zip(there).position(|(one, other)| one != other) {
+            None => Ok(()),
+            Some(word) => {
+                Err(format!("the panel's word {word}, by where it lies or what was there before fresh"))
+            }
+        }
     }
 
     /// Does a step on both, and shows both where it is time to; or what is
     /// different then.
     pub fn take(&mut self, step: &Step, tally: &mut PanelTally) -> Result<(), String> {
         match step {
-            Step::Copy(odd) => self.copy = Some(self.library.copied(*odd)),
+            Step::Copy(odd) => self.copy = Some(Box::new(self.library.copied(*odd))),
             Step::Move(odd) => self.library.moved(*odd),
             _ => {}
         }
-        let expected = Outcome::of(&mut self.own, step);
-        same("the answer", &lent(&mut self.library, step)?, &expected)?;
+        let expected = Outcome::of(&mut *self.own, step);
+        let twins = self.twins(step)?;
+        same("the answer", &lent(&mut *self.library, step)?, &expected)?;
+        same("the answer on other memory", &twins, &expected)?;
         if let Some(copy) = &mut self.copy {
-            same("the answer of a copy", &Outcome::of(copy, step), &expected)?;
+            same("the answer of a copy", &lent(&mut **copy, step)?, &expected)?;
         }
         tally.count(step, &expected);
         self.watch(&expected, tally)?;
@@ -130,6 +154,16 @@ impl<W: Watched> Pair<W> {
             self.show(tally)?;
         }
         Ok(())
+    }
+
+    /// What the twin gives back; fresh makes it on memory that holds other bits than
+    /// the library's panel, which has not taken the step.
+    fn twins(&mut self, step: &Step) -> Result<Outcome, String> {
+        let Step::Fresh(panels, own) = step else { return lent(&mut *self.twin, step) };
+        let start = Start::inverted_from(self.library.words(), self.shown % 2 == 1);
+        let (refusal, twin) = boxed(&start, *panels, *own);
+        self.twin = twin;
+        Ok(Outcome::Fresh(refusal))
     }
 
     /// What the memory must be like after a call.
@@ -145,17 +179,34 @@ impl<W: Watched> Pair<W> {
         if self.library.has_strayed() {
             return Err("bytes beside the panel".into());
         }
-        Ok(())
+        self.same_bytes()
+    }
+
+    /// Compares all that both show, of the statuses those of one panel's numbers.
+    fn show(&mut self, tally: &mut PanelTally) -> Result<(), String> {
+        let turn = self.shown % STATUS_PANELS.len();
+        self.show_with(&STATUS_PANELS[turn..=turn], tally)
     }
 
     /// Compares all that both show.
-    pub fn show(&mut self, tally: &mut PanelTally) -> Result<(), String> {
+    pub fn show_all(&mut self, tally: &mut PanelTally) -> Result<(), String> {
+        self.show_with(&STATUS_PANELS, tally)
+    }
+
+    fn show_with(&mut self, panels: &[u8], tally: &mut PanelTally) -> Result<(), String> {
         self.not_shown = 0;
+        self.shown += 1;
         tally.shown += 1;
         tally.places += self.own.requests();
-        shown_same("", &self.library, &self.own)?;
+        shown_same("", &*self.library, &*self.own)?;
+        for number in panels.iter().flat_map(|panel| numbers_of(*panel)) {
+            tally.count_status(&self.own.request_status(number));
+            status_same("", number, &*self.library, &*self.own)?;
+        }
         if let Some(copy) = &self.copy {
-            shown_same(" of a copy", copy, &self.own)?;
+            shown_same(" of a copy", &**copy, &*self.own)?;
+            let mut numbers = panels.iter().flat_map(|panel| numbers_of(*panel));
+            numbers.try_for_each(|number| status_same(" of a copy", number, &**copy, &*self.own))?;
         }
         if self.library.has_changed() {
             return Err("the panel's memory after the showing calls".into());
@@ -167,6 +218,12 @@ impl<W: Watched> Pair<W> {
     pub fn words(&self) -> &[u64] {
         self.library.words()
     }
+}
+
+#[inline(never)]
+fn boxed<W: Watched>(start: &Start, panels: u8, own: u8) -> (u8, Box<W>) {
+    let (refusal, panel) = W::fresh_on(start, panels, own);
+    (refusal, Box::new(panel))
 }
 
 /// What a call gives back that is lent a copy of its bytes, which it must leave
@@ -191,6 +248,8 @@ fn shown_same(whose: &str, library: &impl Component, own: &impl Component) -> Re
     same(&format!("requests, committed, owed{whose}"), &counts(library), &counts(own))?;
     let counts = |one: &dyn Component| [one.commits(), one.undos(), one.executions()];
     same(&format!("commits, undos, executions{whose}"), &counts(library), &counts(own))?;
+    let shop = |one: &dyn Component| [one.panels(), one.own(), one.made()];
+    same(&format!("panels, own, made{whose}"), &shop(library), &shop(own))?;
     for k in (0..=REGISTERS as u8).chain([u8::MAX]) {
         let (one, other) = (library.register(k), own.register(k));
         if one != other {
@@ -205,6 +264,25 @@ fn shown_same(whose: &str, library: &impl Component, own: &impl Component) -> Re
         }
     }
     Ok(())
+}
+
+/// The numbers of a panel, and some that it has not.
+fn numbers_of(panel: u8) -> impl Iterator<Item = Number> {
+    let events = (0..=EVENTS as u8 + 1).chain([u8::MAX]);
+    events.map(move |event| Number { panel, event })
+}
+
+fn status_same(
+    whose: &str,
+    number: Number,
+    library: &impl Component,
+    own: &impl Component,
+) -> Result<(), String> {
+    let (one, other) = (library.request_status(number), own.request_status(number));
+    if one == other {
+        return Ok(());
+    }
+    same(&format!("status of {}/{}{whose}", number.panel, number.event), &one, &other)
 }
 
 /// Places past the end, some of which are places of the order where only the

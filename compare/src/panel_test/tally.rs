@@ -30,6 +30,13 @@ pub struct PanelTally {
     /// How often all was shown, with how many requests in all.
     pub shown: usize,
     pub places: usize,
+    /// Statuses shown, and those among them of a request that is held, is settled,
+    /// awaits a reply and is executed.
+    pub statuses: usize,
+    pub held: usize,
+    pub settled: usize,
+    pub awaited: usize,
+    pub executed: usize,
 }
 
 impl PanelTally {
@@ -47,7 +54,7 @@ impl PanelTally {
             Outcome::Answer(answer) => self.count_call(answer.refusal),
             Outcome::Receipt(receipt) => {
                 self.count_receipt(receipt);
-                self.count_call(receipt.answer.refusal);
+                self.count_call(receipt.reply.refusal);
             }
             Outcome::Due(due) => {
                 self.due += 1;
@@ -59,6 +66,14 @@ impl PanelTally {
         }
     }
 
+    pub fn count_status(&mut self, status: &Status) {
+        self.statuses += 1;
+        self.held += (status.refusal == ACCEPTED) as usize;
+        self.settled += status.settled as usize;
+        self.awaited += status.awaited as usize;
+        self.executed += status.executed as usize;
+    }
+
     fn count_call(&mut self, refusal: u8) {
         self.calls += 1;
         self.refusals[refusal as usize] += 1;
@@ -67,7 +82,7 @@ impl PanelTally {
     fn count_receipt(&mut self, receipt: &Receipt) {
         if receipt.taken > 0 {
             self.received += 1;
-        } else if receipt.answer.refusal == ACCEPTED {
+        } else if receipt.reply.refusal == ACCEPTED {
             self.ended += 1;
         } else {
             self.unread += 1;
@@ -97,6 +112,11 @@ impl Display for PanelTally {
             out,
             "all due steps: {} times, with replies weak {weak}, tentative {tentative}, stable {stable}",
             self.due
+        )?;
+        writeln!(
+            out,
+            "statuses: {}, of which held {}, settled {}, awaited {}, executed {}",
+            self.statuses, self.held, self.settled, self.awaited, self.executed
         )?;
         write!(
             out,

@@ -46,6 +46,25 @@ pub struct RequestAnswer {
     pub request: Request,
 }
 
+/// What a panel has of a request; all but the refusal is zero where it is refused.
+#[derive(Clone, Copy, Debug, Default, PartialEq, Eq)]
+pub struct StatusAnswer {
+    pub refusal: u8,
+    /// The place in the standing order, counted from 1.
+    pub place: usize,
+    pub settled: bool,
+    pub awaited: bool,
+    pub executed: bool,
+    /// What it responded, where it is executed.
+    pub response: u32,
+}
+
+impl StatusAnswer {
+    fn refused(refusal: u8) -> StatusAnswer {
+        StatusAnswer { refusal, ..StatusAnswer::default() }
+    }
+}
+
 #[derive(Clone)]
 pub struct Panel {
     panels: u8,
@@ -80,8 +99,8 @@ pub struct Panel {
     own_clock: Clock,
     /// Own requests awaiting a reply, bit e−1 for event e.
     awaiting: u64,
-    /// The last tentative response, by own event.
-    responses: [u32; EVENTS],
+    /// The response of the last carry-out, by slot.
+    responses: [u32; REQUESTS],
 
     undos_done: u32,
     carry_outs_done: u32,
@@ -121,7 +140,7 @@ impl Panel {
             own_events: 0,
             own_clock: Clock(0),
             awaiting: 0,
-            responses: [0; EVENTS],
+            responses: [0; REQUESTS],
             undos_done: 0,
             carry_outs_done: 0,
         }
@@ -265,8 +284,6 @@ impl Panel {
         RequestAnswer { refusal: ACCEPTED, request: self.request(slot) }
     }
 
-    // What the printout and a comparison look at besides.
-
     pub fn panels(&self) -> u8 {
         self.panels
     }
@@ -274,6 +291,33 @@ impl Panel {
     pub fn own(&self) -> u8 {
         self.own
     }
+
+    /// How many own requests there are.
+    pub fn made(&self) -> u8 {
+        self.own_events
+    }
+
+    pub fn status(&self, number: Number) -> StatusAnswer {
+        if !self.in_shop(number) {
+            return StatusAnswer::refused(BAD_NUMBER);
+        }
+        let slot = number.slot();
+        let mut order = self.order[..self.accepted].iter();
+        let Some(before) = order.position(|other| *other as usize == slot) else {
+            return StatusAnswer::refused(NOT_HERE);
+        };
+        let executed = before < self.executed;
+        StatusAnswer {
+            refusal: ACCEPTED,
+            place: before + 1,
+            settled: before < self.committed,
+            awaited: self.awaits(slot),
+            executed,
+            response: if executed { self.responses[slot] } else { 0 },
+        }
+    }
+
+    // What the printout and a comparison look at besides.
 
     pub fn registers(&self) -> &[u32; REGISTERS] {
         &self.registers
@@ -449,7 +493,7 @@ impl Panel {
             return Answer::default();
         }
         self.end_waiting(slot);
-        let response = self.responses[slot % EVENTS];
+        let response = self.responses[slot];
         Answer { response, mark: MARK_STABLE, ..Answer::default() }
     }
 
@@ -479,22 +523,22 @@ impl Panel {
         let operation = &self.operations[slot];
         operation.keep(&self.registers, &mut self.before[place]);
         let response = operation.execute(&mut self.registers);
+        self.responses[slot] = response;
         self.board[place] = slot as u16;
         self.on_board += 1;
         self.executed += 1;
         self.carry_outs_done += 1;
-        (slot, response, self.mark(slot, place, response))
+        (slot, response, self.mark(slot, place))
     }
 
     #[inline]
-    fn mark(&mut self, slot: usize, place: usize, response: u32) -> u8 {
+    fn mark(&mut self, slot: usize, place: usize) -> u8 {
         if !self.awaits(slot) {
             MARK_NONE
         } else if !self.strong.contains(slot) {
             self.end_waiting(slot);
             MARK_WEAK
         } else if place >= self.committed {
-            self.responses[slot % EVENTS] = response;
             MARK_TENTATIVE
         } else {
             self.end_waiting(slot);

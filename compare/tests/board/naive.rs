@@ -5,7 +5,7 @@
 
 use mizzencord_compare::replica::call::Call;
 use mizzencord_compare::replica::calls;
-use mizzencord_compare::replica::panel::Answer;
+use mizzencord_compare::replica::panel::{Answer, StatusAnswer};
 use mizzencord_compare::replica::request::{Clock, Number, NumberSet, Operation, Request};
 use mizzencord_compare::replica::wire::{parse, Message, Parsed};
 
@@ -160,6 +160,28 @@ impl Naive {
     pub fn last_own(&self) -> Option<Request> {
         let own = self.standing_order().into_iter().filter(|x| x.number.panel.0 == self.own);
         own.max_by_key(|x| x.number.event.0)
+    }
+
+    /// What is told of a number: by going through the lists, and by one replay of the
+    /// executed list up to the request.
+    pub fn status(&self, number: Number) -> StatusAnswer {
+        let (panel, event) = pair(number);
+        if panel >= self.panels || event == 0 || event > 64 {
+            return StatusAnswer { refusal: 2, ..StatusAnswer::default() };
+        }
+        let is_it = |x: &Request| x.number == number;
+        let Some(before) = self.standing_order().iter().position(is_it) else {
+            return StatusAnswer { refusal: 9, ..StatusAnswer::default() };
+        };
+        let executed = self.executed.iter().position(is_it);
+        StatusAnswer {
+            refusal: 0,
+            place: before + 1,
+            settled: self.committed.iter().any(is_it),
+            awaited: self.awaiting.iter().any(|(x, _)| is_it(x)),
+            executed: executed.is_some(),
+            response: executed.map_or(0, |last| replay(&self.executed[..=last]).1),
+        }
     }
 
     pub fn make(&mut self, operation: Operation, strong: bool, clock: Clock) -> Answer {

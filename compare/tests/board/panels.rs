@@ -11,6 +11,7 @@ use mizzencord_compare::panel_test::pair::Step;
 use mizzencord_compare::panel_test::tally::PanelTally;
 use mizzencord_compare::replica::call::Call;
 use mizzencord_compare::replica::refusal::*;
+use mizzencord_compare::replica::wire::{self, Message};
 
 use crate::build::{claim, set, strong, weak};
 
@@ -20,20 +21,24 @@ const BEHIND: u8 = 3;
 const CHANGED: u8 = 4;
 const STRAYED: u8 = 5;
 const COPIED: u8 = 6;
+const LEFT: u8 = 7;
+const LEFT_LATE: u8 = 8;
+const LAST: u8 = 9;
 
 /// This crate's panel with a fault: owed without the undos; the bytes of a
 /// message that cannot be read taken; a mark behind the replies; memory that
-/// changes at a refused call, or beside the panel; a copy that begins afresh.
+/// changes at a refused call, or beside the panel; a copy that begins afresh;
+/// bytes that fresh leaves, or that a call brings back; no status of an event 64.
 #[derive(Clone, Default)]
 struct Faulty<const FAULT: u8> {
     panel: OwnPanel,
     refused: bool,
+    left: [u64; 1],
 }
 
 impl<const FAULT: u8> Faulty<FAULT> {
-    fn noted(&mut self, answer: Answer) -> Answer {
-        self.refused |= answer.refusal == NOT_HERE;
-        answer
+    fn noted(&mut self, refusal: u8) {
+        self.refused |= refusal == NOT_HERE;
     }
 }
 
@@ -49,13 +54,14 @@ impl<const FAULT: u8> Component for Faulty<FAULT> {
     }
     fn commit(&mut self, number: Number) -> Answer {
         let answer = self.panel.commit(number);
-        self.noted(answer)
+        self.noted(answer.refusal);
+        answer
     }
     fn receive(&mut self, bytes: &[u8], at: usize) -> Receipt {
         let mut receipt = self.panel.receive(bytes, at);
-        self.noted(receipt.answer);
-        if FAULT == TAKEN && receipt.answer.refusal == SPARE_SET {
-            receipt.taken = bytes[at] as u64;
+        self.noted(receipt.reply.refusal);
+        if FAULT == TAKEN && receipt.reply.refusal == SPARE_SET {
+            receipt.taken = bytes[at] as u32;
         }
         receipt
     }
@@ -97,12 +103,27 @@ impl<const FAULT: u8> Component for Faulty<FAULT> {
     fn at_place(&self, place: usize) -> Placed {
         self.panel.at_place(place)
     }
+    fn panels(&self) -> u8 {
+        self.panel.panels()
+    }
+    fn own(&self) -> u8 {
+        self.panel.own()
+    }
+    fn made(&self) -> u8 {
+        self.panel.made()
+    }
+    fn request_status(&self, number: Number) -> Status {
+        if FAULT == LAST && number.event == 64 {
+            return Status { refusal: BAD_NUMBER, ..Status::default() };
+        }
+        self.panel.request_status(number)
+    }
 }
 
 impl<const FAULT: u8> Watched for Faulty<FAULT> {
     fn fresh_on(start: &Start, panels: u8, own: u8) -> (u8, Self) {
         let (refusal, panel) = OwnPanel::fresh_on(start, panels, own);
-        (refusal, Faulty { panel, refused: false })
+        (refusal, Faulty { panel, refused: false, left: [start.words()[0]] })
     }
     fn copied(&self, _: bool) -> Self {
         if FAULT == COPIED {
@@ -120,7 +141,11 @@ impl<const FAULT: u8> Watched for Faulty<FAULT> {
         FAULT == STRAYED && self.refused
     }
     fn words(&self) -> &[u64] {
-        &[]
+        if FAULT == LEFT || FAULT == LEFT_LATE && self.refused {
+            &self.left
+        } else {
+            &[]
+        }
     }
 }
 
@@ -150,7 +175,17 @@ fn planted_faults_are_found_and_shrunk() {
     assert!(least::<CHANGED>().1.contains("must change nothing"));
     assert!(least::<STRAYED>().1.contains("bytes beside the panel"));
     let (small, told) = least::<COPIED>();
-    assert!(matches!(small.steps[..], [_, (0, Step::Copy(_))] | [(0, Step::Copy(_)), _]), "{told}");
+    assert!(matches!(small.steps[..], [(0, Step::Copy(_))]), "{told}");
+    let (small, told) = least::<LAST>();
+    assert!(small.steps.is_empty() && told.contains("status of 0/64"), "{told}");
+}
+
+#[test]
+fn bytes_that_fresh_leaves_are_found() {
+    let (small, told) = least::<LEFT>();
+    assert!(small.steps.is_empty() && told.contains("what was there before fresh"), "{told}");
+    let (small, told) = least::<LEFT_LATE>();
+    assert!(small.steps.len() == 1 && told.contains("what was there before fresh"), "{told}");
 }
 
 #[test]
@@ -168,33 +203,54 @@ fn a_panel_is_no_different_from_itself() {
         (1..REFUSALS).all(|number| [1, 5, 20].contains(&number) || tally.refusals[number] > 0),
         "{tally}"
     );
+    let statuses = [tally.held, tally.settled, tally.awaited, tally.executed];
+    assert!(statuses.iter().all(|count| (1000..tally.statuses).contains(count)), "{tally}");
     let tally = panel_test::soak::<OwnPanel>(3, 20_000, &mut |_| ()).unwrap();
     assert!(tally.fresh > 50 && tally.copied + tally.moved == 0);
 }
 
 /// Every answer of a small shift, worked out by hand from document 01.
 pub fn answers_as_the_header_says(panel: &mut impl Component) {
-    assert_eq!((panel.fresh(9, 0), panel.fresh(3, 3), panel.fresh(2, 1)), (1, 1, 0));
+    assert_eq!((panel.fresh(9, 0), panel.fresh(3, 3)), (1, 1));
+    assert_eq!([panel.panels(), panel.own(), panel.made()], [1, 0, 0]);
+    assert_eq!(panel.fresh(2, 1), 0);
+    assert_eq!([panel.panels(), panel.own(), panel.made()], [2, 1, 0]);
+    let bad = Asked::new(claim(0, 0), true);
+    assert_eq!((panel.invoke(Invocation { asked: bad, clock: 5 }).refusal, panel.made()), (BAD_OPERATION, 0));
     let asked = Asked::new(claim(0, 7), true);
     let made = panel.invoke(Invocation { asked, clock: 5 }).request;
     assert_eq!((made.number, made.clock, made.asked), (Number { panel: 1, event: 1 }, 5, asked));
+    assert_eq!(panel.made(), 1);
+    let awaits = Status { place: 1, awaited: 1, ..Status::default() };
+    assert_eq!(panel.request_status(made.number), awaits);
     let due = panel.run_due();
     assert_eq!((due.undos, due.executions, due.count), (0, 1, 1));
     let reply = Reply { response: 7, number: made.number, mark: 2, refusal: ACCEPTED };
     assert_eq!((due.replies[0], due.replies[1]), (reply, Reply::default()));
+    assert_eq!(panel.request_status(made.number), Status { executed: 1, response: 7, ..awaits });
     assert_eq!(panel.deliver((&weak(0, 1, 1, set(0, 8))).into()), Answer::default());
     assert_eq!((panel.owed(), panel.requests(), panel.committed()), (3, 2, 0));
+    assert_eq!(panel.request_status(made.number), Status { place: 2, ..awaits });
+    let first = Number { panel: 0, event: 1 };
+    assert_eq!(panel.request_status(first), Status { place: 1, ..Status::default() });
     let settled = [9, 9, 6, 0, 3, 0, 1, 1, 9];
-    assert_eq!(panel.receive(&settled, 2), Receipt { taken: 6, ..Receipt::default() });
-    let again = Answer { refusal: SETTLED_ALREADY, ..Answer::default() };
-    assert_eq!(panel.receive(&settled, 2), Receipt { taken: 6, answer: again });
-    let cut = Answer { refusal: CUT_SHORT, ..Answer::default() };
-    assert_eq!(panel.receive(&settled[..7], 2), Receipt { taken: 0, answer: cut });
+    let receipt = Receipt { number: made.number, kind: 3, taken: 6, ..Receipt::default() };
+    assert_eq!(panel.receive(&settled, 2), receipt);
+    let again = Reply { refusal: SETTLED_ALREADY, ..Reply::default() };
+    assert_eq!(panel.receive(&settled, 2), Receipt { reply: again, ..receipt });
+    let cut = Reply { refusal: CUT_SHORT, ..Reply::default() };
+    assert_eq!(panel.receive(&settled[..7], 2), Receipt { reply: cut, ..Receipt::default() });
     assert_eq!(panel.receive(&settled, 9), Receipt::default());
+    assert_eq!(panel.request_status(made.number), Status { settled: 1, ..awaits });
     assert_eq!((panel.committed(), panel.commits(), panel.owed()), (1, 1, 3));
     let due = panel.run_due();
     assert_eq!((due.undos, due.executions, due.count), (1, 2, 1));
     assert_eq!(due.replies[0], Reply { mark: 3, ..reply });
+    let stable = Status { place: 1, settled: 1, executed: 1, response: 7, ..Status::default() };
+    assert_eq!(panel.request_status(made.number), stable);
+    let behind = Status { place: 2, executed: 1, response: 7, ..Status::default() };
+    assert_eq!(panel.request_status(first), behind);
+    status_refusals(panel);
     assert_eq!(panel.register(0), Value { refusal: 0, value: 8 });
     assert_eq!(panel.register(64), Value { refusal: 3, value: 0 });
     assert_eq!(panel.at_place(2).request, (&weak(0, 1, 1, set(0, 8))).into());
@@ -207,7 +263,44 @@ pub fn answers_as_the_header_says(panel: &mut impl Component) {
     assert_eq!(answer, Answer { refusal: WAITS, number: missing, ..Answer::default() });
 }
 
+/// A number outside the shop is bad, whether it could be held or not; the second
+/// panel of a shop of two has made one request.
+fn status_refusals(panel: &impl Component) {
+    let refused = |refusal| Status { refusal, ..Status::default() };
+    for (panel_no, event) in [(2, 1), (8, 1), (255, 1), (0, 0), (1, 0), (0, 65), (1, 255), (255, 255)] {
+        assert_eq!(panel.request_status(Number { panel: panel_no, event }), refused(BAD_NUMBER));
+    }
+    for (panel_no, event) in [(0, 2), (0, 64), (1, 2), (1, 64)] {
+        assert_eq!(panel.request_status(Number { panel: panel_no, event }), refused(NOT_HERE));
+    }
+}
+
+/// Strong and weak messages, received and refused, by number and kind.
+pub fn receipts_as_the_header_says(panel: &mut impl Component) {
+    panel.fresh(2, 1);
+    let requests =
+        [weak(0, 1, 5, set(3, 4)), strong(0, 2, 6, claim(0, 1), &[(0, 7)]), weak(1, 3, 1, set(0, 1))];
+    let mut bytes = Vec::new();
+    requests.iter().for_each(|request| wire::append(&mut bytes, &Message::Request(*request)));
+    wire::append(&mut bytes, &Message::Settlement(requests[1].number));
+    let receipt = |refusal, missing, (panel, event), kind, taken| {
+        let reply = Reply { refusal, number: missing, ..Reply::default() };
+        Receipt { reply, number: Number { panel, event }, kind, taken }
+    };
+    let none = Number::default();
+    assert_eq!(panel.receive(&bytes, 0), receipt(ACCEPTED, none, (0, 1), 1, 18));
+    assert_eq!(panel.receive(&bytes, 0), receipt(HELD_ALREADY, none, (0, 1), 1, 18));
+    assert_eq!(panel.receive(&bytes, 18), receipt(ACCEPTED, none, (0, 2), 2, 82));
+    assert_eq!(panel.receive(&bytes, 100), receipt(OWN_ECHO, none, (1, 3), 1, 18));
+    let missing = Number { panel: 0, event: 7 };
+    assert_eq!(panel.receive(&bytes, 118), receipt(WAITS, missing, (0, 2), 3, 6));
+    assert_eq!(panel.receive(&[6, 0, 3, 0, 255, 65], 0), receipt(BAD_NUMBER, none, (255, 65), 3, 6));
+    assert_eq!(panel.receive(&[7, 0, 3, 0, 0, 2], 0), receipt(BAD_LENGTH, none, (0, 0), 0, 0));
+    assert_eq!(panel.receive(&bytes, 124), Receipt::default());
+}
+
 #[test]
 fn the_calls_answer_as_the_header_says() {
     answers_as_the_header_says(&mut OwnPanel::new());
+    receipts_as_the_header_says(&mut OwnPanel::new());
 }

@@ -3,19 +3,22 @@
 
 use mizzencord_compare::byte_test::cases;
 use mizzencord_compare::byte_test::difference::differ;
-use mizzencord_compare::interface::board::Handwritten;
+use mizzencord_compare::interface::board::{Board, Handwritten};
+use mizzencord_compare::interface::header::VERSION;
 use mizzencord_compare::interface::library::Peer;
 use mizzencord_compare::interface::library_panel::Panel;
 use mizzencord_compare::interface::memory::{Fill, Start, Watched};
 use mizzencord_compare::panel_test;
 use mizzencord_compare::panel_test::tally::PanelTally;
 
-use crate::panels::answers_as_the_header_says;
+use crate::panels::{answers_as_the_header_says, receipts_as_the_header_says};
 
 #[test]
 fn the_peer_answers_as_the_header_says() {
     let start = Start { fill: Fill::Byte(0xa5), odd: true };
     answers_as_the_header_says(&mut Panel::<Peer>::fresh_on(&start, 1, 0).1);
+    receipts_as_the_header_says(&mut Panel::<Peer>::fresh_on(&start, 1, 0).1);
+    assert_eq!(Peer.version(), VERSION);
 }
 
 #[test]

@@ -132,6 +132,21 @@ impl Pair {
         assert_eq!(self.panel.owed(), self.naive.owed());
         assert_eq!(*self.panel.registers(), replay(&self.naive.board()).0);
         self.check_lists();
+        self.check_shop();
+    }
+
+    fn check_shop(&self) {
+        let made = self.naive.last_own().map_or(0, |last| last.number.event.0);
+        assert_eq!(self.panel.made(), made);
+        // Events in turn, so that each number comes up every few calls.
+        let turn = (self.counts.undos + self.counts.carry_outs + self.counts.requests) as u8 % 8;
+        let events = (0..=65).filter(|event| event % 8 == turn || *event > 64).chain([255]);
+        for event in events {
+            for panel in (0..=8).chain([255]) {
+                let number = Number::new(panel, event);
+                assert_eq!(self.panel.status(number), self.naive.status(number), "{number:?}");
+            }
+        }
     }
 
     fn check_lists(&self) {

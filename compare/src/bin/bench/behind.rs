@@ -168,4 +168,20 @@ impl Component for Behind {
     fn at_place(&self, place: usize) -> Placed {
         self.0.at_place(place)
     }
+
+    fn panels(&self) -> u8 {
+        self.0.panels()
+    }
+
+    fn own(&self) -> u8 {
+        self.0.own()
+    }
+
+    fn made(&self) -> u8 {
+        self.0.made()
+    }
+
+    fn request_status(&self, number: Number) -> Status {
+        self.0.request_status(number)
+    }
 }

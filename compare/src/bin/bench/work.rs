@@ -47,7 +47,7 @@ fn give(panel: &mut impl Component, call: &Given) -> u8 {
         Given::Invoke(asked) => black_box(&panel.invoke(*asked)).refusal,
         Given::Deliver(request) => black_box(&panel.deliver(*request)).refusal,
         Given::Commit(number) => black_box(&panel.commit(*number)).refusal,
-        Given::Receive(bytes, at) => black_box(&panel.receive(bytes, *at)).answer.refusal,
+        Given::Receive(bytes, at) => black_box(&panel.receive(bytes, *at)).reply.refusal,
         Given::Undo => black_box(&panel.undo()).refusal,
         Given::Execute => black_box(&panel.execute()).refusal,
         Given::RunDue => {

@@ -54,6 +54,7 @@ fn compare_proved(_: &Asked) -> io::Result<()> {
 }
 
 fn compare<L: Library>(side: &Side, asked: &Asked) -> io::Result<()> {
+    compare_version(side);
     if let Some(calls) = asked.calls {
         comparison::compare_calls(side, asked.seed, calls)?;
     }
@@ -68,6 +69,15 @@ fn compare<L: Library>(side: &Side, asked: &Asked) -> io::Result<()> {
     }
     println!("no difference");
     Ok(())
+}
+
+/// Both are of one revision of the header.
+fn compare_version(side: &Side) {
+    let (library, handwritten) = (side.board.version(), Handwritten.version());
+    if library != handwritten {
+        println!("DIFFERENCE\nversion\n  {}: {library}\n  handwritten: {handwritten}", side.name);
+        process::exit(1);
+    }
 }
 
 /// Drives panels of the library and of this crate call by call.
