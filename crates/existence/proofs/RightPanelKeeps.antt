@@ -8,8 +8,10 @@ use borrow.Author.Tests.{eq-eqb}
 use Rattle.lists.specs.Places.{All}
 use Rattle.lists.proofs.BoolLaws.{either}
 use Rattle.creek.specs.Execution.{isIdle}
-use Rattle.creek.specs.Book.{Call, isAccepted}
-use Rattle.creek.specs.Calls.{Replica, fresh, step}
+use Rattle.creek.specs.declared.Answer.{Answer}
+use Rattle.creek.specs.Book.{Call, deliver, commit, isAccepted, accepted}
+use Rattle.creek.specs.Replies.{replyAnswer, replyIn, answerOf, acceptedAnswer, settlementReply, stableReplyDue}
+use Rattle.creek.specs.Calls.{Replica, fresh, step, answer}
 use Rattle.creek.specs.History.{idled}
 use Rattle.creek.specs.Showing.{owedShown}
 use Rattle.creek.proofs.DueLaws.{idle-exactly}
@@ -18,7 +20,8 @@ use Rattle.replica.specs.Promises.{Fresh, Kept}
 use Rattle.replica.specs.internal.Model.{bookOf, model, Inv}
 use Rattle.due.specs.Due.{RunDue}
 use Rattle.wire.specs.Reader.{Outcome, message, end, refused as unread, answered, readAt}
-use Rattle.intake.specs.Intake.{callOf, answerTo, received, isTakenIn, Received}
+use Rattle.wire.specs.Message.{BusMessage, request, settlement}
+use Rattle.intake.specs.Intake.{callOf, answerTo, numberTold, kindTold, received, isTakenIn, Received}
 use Rattle.history.specs.Received.{callsIn}
 use Rattle.history.specs.Worthless.{PanelCall, single, runDue, receive, next, KeepsCalls, Keeps}
 use Rattle.existence.specs.Memory.{memoryOf}
@@ -43,6 +46,19 @@ right-fresh panels own = record {
 refused-model : (p : State) (c : Call) → isAccepted (bookOf p) c ≡ false → model p ≡ step (model p) c
 unfolding model step
 refused-model p c refused = rw refused
+
+-- ---- what is answered to a message has no request
+
+-- the answer is what the reply says
+abbrev Whole : Answer → Type 0
+Whole a = replyAnswer (replyIn a) ≡ a
+
+reply-whole : (r : Replica) (m : BusMessage) → Whole (answer r (callOf m))
+unfolding callOf answerOf acceptedAnswer settlementReply
+reply-whole r (request x) = either Whole (isAccepted (r .book) (deliver x)) (λ e. refl) (λ e. refl)
+reply-whole r (settlement n) =
+    either Whole (isAccepted (r .book) (commit n))
+    (λ e. either Whole (stableReplyDue (accepted (r .book) (commit n)) (r .awaiting) n) (λ f. refl) (λ f. refl)) (λ e. refl)
 
 module _ (p : State) (s : Storable (model p)) where
   module _ (c : Call) (fit : CallFits c) where
@@ -89,12 +105,22 @@ module _ (p : State) (s : Storable (model p)) where
   -- what stands at a place, received
   pub right-received : (o : Outcome) → All CallFits (callsIn o) → Inv p
       → Received p o (rightReceived p o .receipt) (rightReceived p o .state)
-  unfolding rightReceived answered answerTo received isTakenIn
+  unfolding rightReceived answered answerTo numberTold kindTold received isTakenIn
   right-received (message m n) fit inv =
       let kept = right-call (callOf m) (fit .0) inv in
-      record { taken = refl; answer = kept .answer; state = kept .state; unchanged = kept .unchanged; invariant = kept .invariant }
-  right-received end fit inv = record { taken = refl; answer = refl; state = refl; unchanged = λ none. refl; invariant = inv }
-  right-received (unread w) fit inv = record { taken = refl; answer = refl; state = refl; unchanged = λ none. refl; invariant = inv }
+      record {
+        number = refl;
+        kind = refl;
+        taken = refl;
+        answer = ap (λ (a : Answer). replyAnswer (replyIn a)) (kept .answer) ∙ reply-whole (model p) m;
+        state = kept .state;
+        unchanged = kept .unchanged;
+        invariant = kept .invariant;
+      }
+  right-received end fit inv =
+      record { number = refl; kind = refl; taken = refl; answer = refl; state = refl; unchanged = λ none. refl; invariant = inv }
+  right-received (unread w) fit inv =
+      record { number = refl; kind = refl; taken = refl; answer = refl; state = refl; unchanged = λ none. refl; invariant = inv }
 
   pub right-received-storable : (o : Outcome) → All CallFits (callsIn o) → Storable (model (rightReceived p o .state))
   unfolding rightReceived

@@ -3,9 +3,9 @@
 use Prim.Native.Nat.{ℕ}
 use mathlib.Core.Bool.{cond}
 use lib.ListN.{length}
-use Rattle.numbers.specs.Numbers.{noNumber}
+use Rattle.request.specs.Refusal as refusedBy
 use Rattle.creek.specs.Book.{Call, isAccepted}
-use Rattle.creek.specs.Replies.{done, refusedWith}
+use Rattle.creek.specs.Replies.{replyIn}
 use Rattle.creek.specs.Calls.{freshRefusal, fresh, step, answer}
 use Rattle.creek.specs.History.{idled}
 use Rattle.creek.specs.Showing.{registerRefusal, registerShown, requestsShown, commitsShown, undosShown, executionsShown, owedShown}
@@ -16,7 +16,10 @@ use Rattle.replica.specs.declared.RegisterValue.{RegisterValue}
 use Rattle.replica.specs.declared.PlacedRequest.{PlacedRequest}
 use Rattle.due.specs.Due.{DueOutcome, padded, repliesOwed}
 use Rattle.wire.specs.Reader.{Outcome, message, end, refused, readAt}
+use Rattle.wire.specs.Layout.{kindNumber}
+use Rattle.wire.specs.Message.{kindOf, numberIn}
 use Rattle.intake.specs.Intake.{callOf}
+use Rattle.intake.specs.internal.Parts.{nothing}
 use Rattle.history.specs.Received.{Reception}
 use Rattle.history.specs.Worthless.{Panel}
 use Rattle.existence.specs.Memory.{memoryOf}
@@ -39,14 +42,19 @@ rightRunDue p = record {
   state = memoryOf (idled (model p));
 }
 
--- what stands at a place, received: a message as its call, with its bytes taken; what cannot be read leaves the memory as it was
+-- what stands at a place, received: a message as its call, told by its number and kind, with its bytes taken; what cannot be read leaves the memory as it was
 unfoldable pub rightReceived : State → Outcome → Reception
 rightReceived p (message m n) = record {
-  receipt = record { answer = rightCall p (callOf m) .answer; taken = n };
+  receipt = record {
+    reply = replyIn (rightCall p (callOf m) .answer);
+    number = numberIn m;
+    kind = kindNumber (kindOf m);
+    taken = n;
+  };
   state = rightCall p (callOf m) .state;
 }
-rightReceived p end = record { receipt = record { answer = done; taken = 0 }; state = p }
-rightReceived p (refused w) = record { receipt = record { answer = refusedWith w noNumber; taken = 0 }; state = p }
+rightReceived p end = record { receipt = nothing refusedBy.accepted; state = p }
+rightReceived p (refused w) = record { receipt = nothing w; state = p }
 
 -- a register, shown
 unfoldable pub rightRegister : State → ℕ → RegisterValue

@@ -4,6 +4,7 @@ use mathlib.Core.Path.{_≡_}
 use mathlib.Core.List.{List, [], _∷_}
 use Rattle.creek.specs.declared.Answer.{Answer}
 use Rattle.creek.specs.Book.{Call}
+use Rattle.creek.specs.Replies.{replyAnswer}
 use Rattle.creek.specs.History.{answersTo}
 use Rattle.replica.specs.State.{State}
 use Rattle.replica.specs.internal.Model.{model}
@@ -20,7 +21,7 @@ callsIn (refused w) = []
 
 -- the answers to them, of which the receipt has one
 abbrev pub answersIn : Outcome → Receipt → List Answer
-answersIn (message m n) r = r .answer ∷ []
+answersIn (message m n) r = replyAnswer (r .reply) ∷ []
 answersIn end r = []
 answersIn (refused w) r = []
 

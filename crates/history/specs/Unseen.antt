@@ -4,6 +4,7 @@
 use Prim.Native.Nat.{ℕ}
 use mathlib.Core.Path.{_≡_}
 use mathlib.Core.List.{List}
+use Rattle.numbers.specs.declared.Number.{Number}
 use Rattle.creek.specs.declared.Answer.{Answer}
 use Rattle.creek.specs.declared.Reply.{Reply}
 use Rattle.creek.specs.Book.{Call}
@@ -13,6 +14,8 @@ use Rattle.replica.specs.declared.RegisterValue.{RegisterValue}
 use Rattle.replica.specs.declared.PlacedRequest.{PlacedRequest}
 use Rattle.replica.specs.internal.Model.{model, Inv}
 use Rattle.due.specs.Due.{DueOutcome, RunDue}
+use Rattle.status.specs.declared.RequestStatus.{RequestStatus}
+use Rattle.status.specs.Status.{StatusShown}
 use Rattle.wire.specs.Reader.{Outcome}
 use Rattle.intake.specs.declared.Receipt.{Receipt}
 use Rattle.intake.specs.Intake.{Received}
@@ -24,6 +27,7 @@ pub record ShownAlike (p q : State) : Type 0 where
   pub models : model p ≡ model q
   pub register : (k : ℕ) (shown shown′ : RegisterValue) → RegisterShown p k shown → RegisterShown q k shown′ → shown ≡ shown′
   pub at-place : (place : ℕ) (shown shown′ : PlacedRequest) → PlaceShown p place shown → PlaceShown q place shown′ → shown ≡ shown′
+  pub status : (n : Number) (shown shown′ : RequestStatus) → StatusShown p n shown → StatusShown q n shown′ → shown ≡ shown′
   pub replies : (r s : DueOutcome) → RunDue p r → RunDue q s → r .replies ≡ s .replies
   pub receipt : (o : Outcome) (r s : Receipt) (p′ q′ : State) → Received p o r p′ → Received q o s q′ → r ≡ s
 

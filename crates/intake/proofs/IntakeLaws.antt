@@ -14,12 +14,15 @@ use Rattle.fields.specs.Contents.{numberFrom, clockFrom, askedFrom, requestFrom
 use Rattle.store.specs.Requests.{requestOf}
 use Rattle.request.specs.Refusal.{accepted}
 use Rattle.creek.specs.declared.Answer.{Answer}
+use Rattle.creek.specs.declared.Reply.{Reply}
 use Rattle.creek.specs.Book.{deliver, commit}
+use Rattle.creek.specs.Replies.{replyAnswer}
 use Rattle.replica.specs.internal.Parts.{KeptBy}
+use Rattle.wire.specs.Layout.{kindNumber}
 use Rattle.wire.specs.declared.Subject.the-variants.{Request as aRequest, Settlement}
-use Rattle.wire.specs.Message.{BusMessage, said}
+use Rattle.wire.specs.Message.{BusMessage, said, kindOf, numberIn}
 use Rattle.wire.specs.Reader.{Outcome, message, end, refused, answered}
-use Rattle.intake.specs.Intake.{callOf, answerTo, received, isTakenIn}
+use Rattle.intake.specs.Intake.{callOf, answerTo, numberTold, kindTold, received, isTakenIn}
 use Rattle.intake.specs.internal.Parts.{Lent, nothing, takeParts, Taken, contextIn, heardAt, ReceiveKept}
 
 -- the number, the clock reading, what is asked for and the context that stand at a place are those of a request
@@ -38,23 +41,48 @@ module _ {panels : ℕ} {own : PanelNo} {l : Lent} where
   -- ---- what stands at a place
 
   module _ {o : Outcome} where
-    pub receive-message : {l′ : Lent} {a : Answer} {m : BusMessage} {n : ℕ} → o ≡ message m n → Taken panels own l m l′ a
-        → ReceiveKept panels own l o l′ (record { answer = a; taken = n })
-    unfolding answered answerTo received isTakenIn
-    receive-message e k = rw e record {
+    pub receive-message : {l′ : Lent} {reply : Reply} {m : BusMessage} {n : ℕ} {number : Number} {kind : ℕ} → o ≡ message m n
+        → number ≡ numberIn m → kind ≡ kindNumber (kindOf m) → Taken panels own l m l′ (replyAnswer reply)
+        → ReceiveKept panels own l o l′ (record { reply = reply; number = number; kind = kind; taken = n })
+    unfolding answered answerTo numberTold kindTold received isTakenIn
+    receive-message e named numbered k = rw e record {
       kept = λ p inv.
           let done = k .kept p inv in
-          record { taken = refl; answer = done .answer; state = done .state; unchanged = done .unchanged; invariant = done .invariant };
+          record {
+            number = named;
+            kind = numbered;
+            taken = refl;
+            answer = done .answer;
+            state = done .state;
+            unchanged = done .unchanged;
+            invariant = done .invariant;
+          };
     }
 
     pub receive-end : o ≡ end → ReceiveKept panels own l o l (nothing accepted)
-    unfolding answered answerTo received isTakenIn
+    unfolding answered answerTo numberTold kindTold received isTakenIn
     receive-end e = rw e record {
-      kept = λ p inv. record { taken = refl; answer = refl; state = refl; unchanged = λ _. refl; invariant = inv };
+      kept = λ p inv. record {
+        number = refl;
+        kind = refl;
+        taken = refl;
+        answer = refl;
+        state = refl;
+        unchanged = λ _. refl;
+        invariant = inv;
+      };
     }
 
     pub receive-refused : (w : ℕ) → o ≡ refused w → ReceiveKept panels own l o l (nothing w)
-    unfolding answered answerTo received isTakenIn
+    unfolding answered answerTo numberTold kindTold received isTakenIn
     receive-refused w e = rw e record {
-      kept = λ p inv. record { taken = refl; answer = refl; state = refl; unchanged = λ _. refl; invariant = inv };
+      kept = λ p inv. record {
+        number = refl;
+        kind = refl;
+        taken = refl;
+        answer = refl;
+        state = refl;
+        unchanged = λ _. refl;
+        invariant = inv;
+      };
     }

@@ -2,10 +2,10 @@
 //
 // The panel's parts are lent as in `delivering` and `committing`, whose calls these are. `Intake` of `specs/` says what a message stands for and
 // what receiving promises.
-use creek::Answer;
 use creek::Reply;
 use fields::places;
 use fields::reading;
+use numbers::Number;
 use numbers::PanelNo;
 use request::refusal;
 use wire::HeadAnswer;
@@ -24,11 +24,14 @@ ghost use Rattle.wire.specs.Head.{GoodHead, messageAt};
 ghost use Rattle.intake.specs.internal.Parts.{lentNow, lentEntry, lentExit, takeParts, TakeAsks, Taken, nothing, ReceiveKept};
 ghost use Rattle.intake.specs.internal.Parts.{contextSize, contextIn, ContextPut, heardAt};
 
-// What the message at a place led to: the answer, and the message's bytes, 0 where none could be read.
+// What the message at a place led to: the answer, which has no request; which message it was; and its bytes. Number, kind and bytes are 0
+// where none could be read.
 #[repr(C)]
 pub struct Receipt {
-    pub answer: Answer,
-    pub taken: usize,
+    pub reply: Reply,
+    pub number: Number,
+    pub kind: u16,
+    pub taken: u32,
 }
 
 // The message at a place is heard or settled; what cannot be read leaves the panel alone.
@@ -62,6 +65,8 @@ pub fn receive<'a>(
     let found = head.answer;
     match found {
         HeadAnswer::Good(kind) => {
+            let number = reading::number_at(bytes, at);
+            let told = wire::kind_number(kind) as u16;
             let reply = take_at(
                 bytes,
                 at,
@@ -83,10 +88,12 @@ pub fn receive<'a>(
                 responses,
                 settled,
             );
-            let answer = replica::answer_of(reply);
+            let taken = head.taken as u32;
             Receipt {
-                answer,
-                taken: head.taken,
+                reply,
+                number,
+                kind: told,
+                taken,
             }
         }
         HeadAnswer::End => untaken(refusal::ACCEPTED),
@@ -261,6 +268,12 @@ fn put_context(words: &mut [u64; 8], bytes: &[u8], at: usize, strong: bool)
 fn untaken(refusal: u8) -> Receipt
     ensures { λ r. ⌜ r ≡ nothing refusal ⌝ }
 {
-    let answer = replica::refused(refusal);
-    Receipt { answer, taken: 0 }
+    let reply = replica::refusing(refusal);
+    let number = numbers::none();
+    Receipt {
+        reply,
+        number,
+        kind: 0,
+        taken: 0,
+    }
 }

@@ -5,15 +5,13 @@ use mathlib.Core.List.{List, [], _∷_, _++_}
 use native.Mathlib.Numerals.{add-one}
 use native.Mathlib.Omega.{arith}
 use lib.ListN.{length}
-use Rattle.numbers.specs.declared.Number.{Number}
-use Rattle.fields.specs.Widths.{settlementWidths, decode}
-use Rattle.fields.specs.Contents.{numberFrom}
 use Rattle.text.specs.Placed.{Placed}
 use Rattle.text.proofs.PlacedLaws.{Left, left-start, left-step, left-end}
 use Rattle.report.specs.Lines.{messageLine, unreadLine}
 use Rattle.report.specs.Sizes.{mostMessageBytes}
 use Rattle.report.proofs.SizeLaws.{unread-short}
 use Rattle.creek.specs.declared.Answer.{Answer}
+use Rattle.creek.specs.Replies.{replyAnswer}
 use Rattle.creek.specs.Calls.{Replica}
 use Rattle.creek.specs.History.{idled}
 use Rattle.creek.specs.Showing.{undosShown}
@@ -22,16 +20,16 @@ use Rattle.replica.specs.internal.Model.{model, Inv}
 use Rattle.due.specs.declared.DueSteps.{DueSteps}
 use Rattle.due.specs.Due.{RunDue}
 use Rattle.due.specs.internal.Parts.{ranTo}
-use Rattle.wire.specs.Layout.{kindNumber, leastMessage}
-use Rattle.wire.specs.Message.{BusMessage, request, settlement, kindOf, frontOf, contents, fieldsOf}
-use Rattle.wire.specs.Reader.{Outcome, message, end, refused, answered, kindAt, readAt}
+use Rattle.wire.specs.Layout.{leastMessage}
+use Rattle.wire.specs.Message.{BusMessage}
+use Rattle.wire.specs.Reader.{Outcome, message, end, refused, answered, readAt}
 use Rattle.wire.proofs.ReaderLaws.{not-at-end}
-use Rattle.wire.proofs.RoundTrip.{taken-least, taken-inside, kind-told, number-told}
+use Rattle.wire.proofs.RoundTrip.{taken-least, taken-inside}
 use Rattle.intake.specs.declared.Receipt.{Receipt}
-use Rattle.intake.specs.Intake.{answerTo, received, Received}
+use Rattle.intake.specs.Intake.{answerTo, numberTold, kindTold, received, Received}
 use Rattle.runs.specs.Found.{foundFrom}
 use Rattle.runs.proofs.FoundLaws.{bytesOf, one-found, none-found}
-use Rattle.printed.specs.Printout.{after, afterAll, refusalIn, undoneIn, numberIn, lineOfMessage, lineFor, messageLines}
+use Rattle.printed.specs.Printout.{after, afterAll, refusalIn, undoneIn, lineOfMessage, lineFor, messageLines}
 use Rattle.printed.specs.Printout.{shopBytes, mostMessages, mostInput}
 use Rattle.message_lines.specs.LinesPut.{LinePut, AllPut}
 
@@ -44,8 +42,8 @@ message-by (message m n) r e took = (m, ap (message m) (sym e))
 message-by end r e took = absurd (took e)
 message-by (refused w) r e took = absurd (took e)
 
-refused-by : (p : Replica) (o : Outcome) (r : Receipt) → r .taken ≡ answered o .taken → r .answer ≡ answerTo p o → (o ≡ end → ⊥)
-    → ((m : BusMessage) (n : ℕ) → o ≡ message m n → leastMessage ≤ n) → r .taken ≡ 0 → o ≡ refused (r .answer .refusal)
+refused-by : (p : Replica) (o : Outcome) (r : Receipt) → r .taken ≡ answered o .taken → replyAnswer (r .reply) ≡ answerTo p o → (o ≡ end → ⊥)
+    → ((m : BusMessage) (n : ℕ) → o ≡ message m n → leastMessage ≤ n) → r .taken ≡ 0 → o ≡ refused (r .reply .refusal)
 unfolding answered answerTo
 refused-by p (message m n) r e a more least untaken = absurd (omega (arith, least m n refl))
 refused-by p end r e a more least untaken = absurd (more refl)
@@ -62,20 +60,13 @@ message-there {r = r} s at got took = message-by (readAt s at) r (got .taken) to
 
 -- ---- a message's line
 
-number-in : (m : BusMessage) → numberIn m ≡ numberFrom (fieldsOf m)
-unfolding numberIn fieldsOf contents frontOf
-number-in (request x) = refl
-number-in (settlement n) = refl
-
--- the line of the message at a place is made of what stands there
-pub line-told : (s : List ℕ) (at : ℕ) (m : BusMessage) (n : ℕ) → readAt s at ≡ message m n
-    → (place kind refusal undone : ℕ) (number : Number) → kind ≡ kindAt s at → number ≡ numberFrom (decode settlementWidths s at)
-    → lineOfMessage place m refusal undone ≡ messageLine place kind (number .panel .0) (number .event .0) refusal undone
-unfolding lineOfMessage
-line-told s at m n read place kind refusal undone number k e =
-    let named : numberIn m ≡ number = number-in m ∙ number-told s at m n read ∙ sym e in
-    let numbered : kindNumber (kindOf m) ≡ kind = sym (kind-told s at m n read) ∙ sym k in
-    rw (named, numbered)
+-- it is made of what the receipt tells
+line-told : {p q : State} {r : Receipt} {o : Outcome} (m : BusMessage) (n : ℕ) → Received p o r q → o ≡ message m n
+    → (place refusal undone : ℕ)
+    → lineOfMessage place m refusal undone ≡ messageLine place (r .kind) (r .number .panel .0) (r .number .event .0) refusal undone
+unfolding lineOfMessage numberTold kindTold
+line-told m n got is place refusal undone =
+    rw (got .kind ∙ ap kindTold is, got .number ∙ ap numberTold is)
 
 -- the lines of a message and of what is found behind it
 lines-next : (place : ℕ) (r r₁ : Replica) (m : BusMessage) (n refusal undone : ℕ) (rest : List Outcome) → r₁ ≡ after r (message m n)
@@ -133,11 +124,11 @@ module _ {p₀ : State} {s out : List ℕ} {from : ℕ} {p : State} {out₁ : Li
 
     module _ {r : Receipt} {q : State} (got : Received p (readAt s at) r q) where
       -- what cannot be read is the last that is found
-      pub put-last : {out₂ : List ℕ} {behind₂ : ℕ} → r .taken ≡ 0 → length s ≤ mostInput → r .answer .refusal < 2 ^ 8
-          → Placed out₁ behind (unreadLine place (r .answer .refusal)) out₂ behind₂ → AllPut p₀ s out from q out₂ behind₂
+      pub put-last : {out₂ : List ℕ} {behind₂ : ℕ} → r .taken ≡ 0 → length s ≤ mostInput → r .reply .refusal < 2 ^ 8
+          → Placed out₁ behind (unreadLine place (r .reply .refusal)) out₂ behind₂ → AllPut p₀ s out from q out₂ behind₂
       unfolding afterAll after messageLines lineFor received
       put-last untaken low small w =
-          let f = r .answer .refusal in
+          let f = r .reply .refusal in
           let is : readAt s at ≡ refused f =
           refused-by (model p) (readAt s at) r (got .taken) (got .answer) (not-at-end s at below) (taken-least s at) untaken in
           let last : foundFrom s at ≡ refused f ∷ [] =
@@ -161,7 +152,7 @@ module _ {p₀ : State} {s out : List ℕ} {from : ℕ} {p : State} {out₁ : Li
 
         module _ {d : DueSteps} {q₁ : State} (ran : RunDue q (ranTo d q₁))
             (counted : q₁ .counters .undos ≡ p .counters .undos + d .undos) where
-          pub put-step : {out₂ : List ℕ} {behind₂ : ℕ} → LinePut s at place (r .answer .refusal) (d .undos) out₁ behind out₂ behind₂
+          pub put-step : {out₂ : List ℕ} {behind₂ : ℕ} → LinePut place (r .kind) (r .number) (r .reply .refusal) (d .undos) out₁ behind out₂ behind₂
               → Putting p₀ s out from q₁ out₂ (at + r .taken) behind₂ (place + 1)
           unfolding afterAll after refusalIn answerTo received
           put-step {out₂} {behind₂} w =
@@ -174,19 +165,20 @@ module _ {p₀ : State} {s out : List ℕ} {from : ℕ} {p : State} {out₁ : Li
               one-found s at below ∙ ap (λ (o : Outcome). o ∷ foundFrom s (at + bytesOf o (length s - at))) is in
               let stands : model q₁ ≡ after (model p) (message m n) =
               ran .state ∙ ap idled (got .state ∙ ap (received (model p)) is) in
-              let refusal : r .answer .refusal ≡ refusalIn (model p) (message m n) =
+              let refusal : r .reply .refusal ≡ refusalIn (model p) (message m n) =
               ap (λ (a : Answer). a .refusal) (got .answer ∙ ap (answerTo (model p)) is) in
               let undone : d .undos ≡ undoneIn (model p) (message m n) =
               omega (arith, counted, undos-are p, undos-are q₁, ap undosShown stands) in
               let lines =
-              ap (messageLines place (model p)) one ∙ lines-next place (model p) (model q₁) m n _ _ rest stands refusal undone in
+              ap (messageLines place (model p)) one ∙ lines-next place (model p) (model q₁) m n _ _ rest stands refusal undone
+              ∙ ap (λ (l : List ℕ). l ++ messageLines (place + 1) (model q₁) rest) (line-told m n got is place _ _) in
               let whole = messageLines 1 (model p₀) (foundFrom s shopBytes) in
               let size = within in
               record {
                 inside = size .2;
                 invariant = ran .invariant;
                 state = ap (λ (x : Replica). afterAll x rest) stands ∙ sym (ap (afterAll (model p)) one) ∙ put .state;
-                lines = left-step _ (w .written m n is) (subst (Left out from whole out₁ behind) lines (put .lines));
+                lines = left-step _ (w .written) (subst (Left out from whole out₁ behind) lines (put .lines));
                 few = omega (arith, put .few, w .few);
                 paced = omega (arith, put .paced, size .1);
               }

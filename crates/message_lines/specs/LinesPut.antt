@@ -2,18 +2,18 @@
 use Prim.Native.Nat.{ℕ, _+_, _*_, _≤_}
 use mathlib.Core.Path.{_≡_}
 use mathlib.Core.List.{List}
+use Rattle.numbers.specs.declared.Number.{Number}
 use Rattle.text.specs.Placed.{Placed}
+use Rattle.report.specs.Lines.{messageLine}
 use Rattle.report.specs.Sizes.{mostMessageBytes}
 use Rattle.replica.specs.State.{State}
 use Rattle.replica.specs.internal.Model.{model, Inv}
-use Rattle.wire.specs.Message.{BusMessage}
-use Rattle.wire.specs.Reader.{message, readAt}
 use Rattle.runs.specs.Found.{foundFrom}
-use Rattle.printed.specs.Printout.{afterAll, lineOfMessage, messageLines, shopBytes, mostMessages}
+use Rattle.printed.specs.Printout.{afterAll, messageLines, shopBytes, mostMessages}
 
--- the line of the message that stands at the place `from` of s was put
-pub record LinePut (s : List ℕ) (from place refusal undone : ℕ) (out : List ℕ) (at : ℕ) (out′ : List ℕ) (behind : ℕ) : Type 0 where
-  pub written : (m : BusMessage) (n : ℕ) → readAt s from ≡ message m n → Placed out at (lineOfMessage place m refusal undone) out′ behind
+-- the line of a message of that kind that names that number was put
+pub record LinePut (place kind : ℕ) (number : Number) (refusal undone : ℕ) (out : List ℕ) (at : ℕ) (out′ : List ℕ) (behind : ℕ) : Type 0 where
+  pub written : Placed out at (messageLine place kind (number .panel .0) (number .event .0) refusal undone) out′ behind
   pub few : behind ≤ at + mostMessageBytes
 
 -- all that is found in the input was received by p, which is q then, and its lines were put

@@ -1,47 +1,40 @@
 // The messages of the printout: each that is found in the input is received by the panel, and its line is put into lent bytes.
 //
 // The panel's memory is lent whole, and the contract speaks of it as one memory.
-use fields::integers;
-use fields::places;
-use fields::reading;
+use numbers::Number;
 use numbers::PanelNo;
 ghost use Prim.Native.Nat.{_+_, _*_, _≤_};
 ghost use lib.ListN.{length};
 ghost use Rattle.report.specs.Sizes.{mostMessageBytes};
 ghost use Rattle.replica.specs.internal.Model.{Inv};
 ghost use Rattle.replica.specs.internal.Whole.{wholeNow, wholeEntry, wholeExit};
-ghost use Rattle.wire.specs.Layout.{leastMessage};
 ghost use Rattle.printed.specs.Printout.{shopBytes, mostMessages, mostInput};
 ghost use Rattle.message_lines.specs.LinesPut.{LinePut, AllPut};
 
 // P and the own panel, one byte each, in front of the messages.
 pub const SHOP_BYTES: usize = 2;
 
-// Puts the line of the message that stands at the place `from` of the input.
+// Puts the line of a message of that kind that names that number.
 fn put_line(
     out: &mut [u8],
     at: usize,
     place: u64,
-    input: &[u8],
-    from: usize,
+    kind: u16,
+    number: Number,
     refusal: u8,
     undone: u32,
 ) -> usize
     requires { ⌜ at + mostMessageBytes ≤ length (now out) ⌝ }
     requires { ⌜ place ≤ mostInput ⌝ }
-    requires { ⌜ from + leastMessage ≤ length (now input) ⌝ }
-    ensures { λ r. ⌜ LinePut (now (input .entry)) from place refusal undone (now (out .entry)) at (now (out .exit)) r ⌝ }
+    ensures { λ r. ⌜ LinePut place kind number refusal undone (now (out .entry)) at (now (out .exit)) r ⌝ }
 {
-    let kind_at = from + places::KIND_AT;
-    let kind = integers::integer_at(input, kind_at, places::KIND_WIDTH);
-    let number = reading::number_at(input, from);
     let panel = number.panel.0;
     let event = number.event.0;
     report::put_message(
         out,
         at,
         place,
-        kind,
+        kind as u64,
         panel as u64,
         event as u64,
         refusal as u64,
@@ -117,8 +110,10 @@ pub fn put_messages(
             responses,
             settled,
         );
-        let refusal = receipt.answer.refusal;
-        let taken = receipt.taken;
+        let refusal = receipt.reply.refusal;
+        let kind = receipt.kind;
+        let number = receipt.number;
+        let taken = receipt.taken as usize;
         if taken == 0 {
             return report::put_unread(out, behind, place, refusal as u64);
         }
@@ -140,7 +135,7 @@ pub fn put_messages(
         let executions_done = *executions + steps.executions;
         *undos = undos_done;
         *executions = executions_done;
-        behind = put_line(out, behind, place, input, at, refusal, undone);
+        behind = put_line(out, behind, place, kind, number, refusal, undone);
         at += taken;
         place += 1;
     }

@@ -28,13 +28,12 @@ use Rattle.wire.specs.declared.Kind.{Kind}
 use Rattle.wire.specs.declared.Kind.the-variants.{Weak, Strong, Settlement}
 use Rattle.wire.specs.Layout.{kindWith, leastSize, mostSize, layout, widthsWith}
 use Rattle.fields.specs.Widths.{headSize, decode, Within}
-use Rattle.wire.specs.Message.{BusMessage, request, settlement, messageFrom}
+use Rattle.wire.specs.Message.{BusMessage, request, settlement, messageFrom, numberIn}
 use Rattle.wire.specs.Reader.{Outcome, message, end, refused, refusalOf, answered, lengthAt, kindAt, runAt, fieldsAt, spareSet}
 use Rattle.wire.specs.Reader.{refusalAs, readAs, readWith, readAt}
 use Rattle.wire.proofs.RoundTrip.{taken}
 use Rattle.intake.specs.Intake.{callOf}
 use Rattle.runs.specs.Found.{passed, found}
-use Rattle.printed.specs.Printout.{numberIn}
 
 -- ---- refusal numbers
 

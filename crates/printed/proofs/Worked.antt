@@ -22,12 +22,12 @@ use Rattle.creek.specs.History.{afterDueSteps}
 use Rattle.wire.specs.Integers.{integerAt}
 use Rattle.wire.specs.Layout.{kindWith, layout, widthsWith, leastSize, mostSize}
 use Rattle.fields.specs.Widths.{decode}
-use Rattle.wire.specs.Message.{kindOf, messageFrom}
+use Rattle.wire.specs.Message.{kindOf, messageFrom, numberIn}
 use Rattle.wire.specs.Reader.{lengthAt, kindAt, runAt, fieldsAt, spareSet, refusalAs, readAs, readAt}
 use Rattle.report.specs.Lines.{boardLine, messageLine, totalsLine, registerLine, lineUnlessZero, registerLinesFrom, registerLines}
 use Rattle.intake.specs.Intake.{callOf}
 use Rattle.runs.specs.Found.{found}
-use Rattle.printed.specs.Printout.{after, afterAll, numberIn, lineOfMessage, lineFor, refusalIn}
+use Rattle.printed.specs.Printout.{after, afterAll, lineOfMessage, lineFor, refusalIn}
 use Rattle.printed.specs.Printout.{messageLines, closing, printoutOf, printout}
 
 -- three panels, of which this is the last

@@ -6,14 +6,13 @@ use mathlib.Core.Bool.{cond}
 use mathlib.Core.List.{List, [], _∷_, _++_}
 use lib.ListN.{length, getD, take, drop}
 use lib.Dec.{ltb}
-use Rattle.numbers.specs.declared.Number.{Number}
 use Rattle.request.specs.Refusal as refusedBy
 use Rattle.creek.specs.Execution.{registers}
 use Rattle.creek.specs.Calls.{Replica, badShop, fresh, step, answer}
 use Rattle.creek.specs.History.{idled}
 use Rattle.creek.specs.Showing.{undosShown, executionsShown}
 use Rattle.wire.specs.Layout.{kindNumber, leastMessage}
-use Rattle.wire.specs.Message.{BusMessage, request, settlement, kindOf}
+use Rattle.wire.specs.Message.{BusMessage, kindOf, numberIn}
 use Rattle.wire.specs.Reader.{Outcome, message, end, refused}
 use Rattle.intake.specs.Intake.{callOf}
 use Rattle.runs.specs.Found.{foundFrom}
@@ -44,11 +43,6 @@ afterAll r [] = r
 afterAll r (o ∷ os) = afterAll (after r o) os
 
 -- ---- the lines
-
--- the number that a message names
-unfoldable pub numberIn : BusMessage → Number
-numberIn (request x) = x .number
-numberIn (settlement n) = n
 
 -- a message's line, at its place among the messages, with its refusal and the undos done since the line before
 unfoldable pub lineOfMessage : ℕ → BusMessage → ℕ → ℕ → List ℕ

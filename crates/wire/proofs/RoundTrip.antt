@@ -3,7 +3,8 @@
 --     write-back       what is read writes back as the bytes that were taken
 --     read-fits, read-sendable      so the writer refuses nothing that was read, given room
 --     written-reads, read-writes    the same two of the writer's lent part
---     taken-least, taken-inside     a message takes at least the bytes of the shortest, and no more than are left
+--     taken-least, taken-longest, taken-inside     a message takes at least the bytes of the shortest, at most those of the longest, and no
+--                                   more than are left
 --     kind-told, number-told        its kind's number and the number that it names stand at the same places in each kind
 --     place-inside     no answer moves a place past the end
 -- One argument serves every kind: what it asks of one stands in `KindLaws`.
@@ -19,10 +20,10 @@ use Rattle.request.specs.Refusal as refusal
 use borrow.Author.Tests.{eq-eqb}
 use Rattle.wire.specs.declared.Written.{Written}
 use Rattle.wire.specs.declared.Kind.{Kind}
-use Rattle.wire.specs.Layout.{kindNumber, kindWith, widthsWith, leastSize, mostSize, leastMessage}
+use Rattle.wire.specs.Layout.{kindNumber, kindWith, widthsWith, leastSize, mostSize, leastMessage, longestMessage}
 use Rattle.fields.specs.Widths.{size, decode, encode, Within}
 use Rattle.fields.specs.Widths.{lengthField, kindField, headFields, headSize}
-use Rattle.wire.specs.Message.{BusMessage, kindOf, runOf, contents, widthsOf, sizeOf, fieldsOf, bytesOf, messageFrom}
+use Rattle.wire.specs.Message.{BusMessage, request, settlement, kindOf, numberIn, frontOf, runOf, contents, widthsOf, sizeOf, fieldsOf, bytesOf, messageFrom}
 use Rattle.fields.specs.Contents.{numberFrom}
 use Rattle.wire.specs.Message.{weakWithContext, Fits}
 use Rattle.wire.specs.Reader.{Outcome, message, end, refused, answered}
@@ -179,10 +180,20 @@ module _ (k : Kind) (s : List ℕ) (at : ℕ) where
         ∙ ap (λ (l : List ℕ). lengthAt s at ∷ kindAt s at ∷ l) (laws .contents-kept s at laid)
         ∙ sym fields-at
 
+-- the number that a message names is the first of its contents
+number-first-in : (m : BusMessage) → numberIn m ≡ numberFrom (fieldsOf m)
+unfolding numberIn fieldsOf contents frontOf
+number-first-in (request r) = refl
+number-first-in (settlement n) = refl
+
 module _ (s : List ℕ) (at : ℕ) (m : BusMessage) (n : ℕ) (read : readAt s at ≡ message m n) where
   -- a message takes at least the bytes of the shortest
   pub taken-least : leastMessage ≤ n
   taken-least = let t = taken s at m n read in omega (arith, t .taken-is, t .laid .least, kind-laws (t .kind) .least)
+
+  -- at most those of the longest
+  pub taken-longest : n ≤ longestMessage
+  taken-longest = let t = taken s at m n read in omega (arith, t .taken-is, t .laid .most, kind-laws (t .kind) .longest)
 
   -- and no more than are left
   pub taken-inside : at + n ≤ length s
@@ -200,11 +211,12 @@ module _ (s : List ℕ) (at : ℕ) (m : BusMessage) (n : ℕ) (read : readAt s a
       t .kind-is ∙ sym (ap kindNumber (ap kindOf (t .message-is) ∙ kind-laws (t .kind) .kind-kept _))
 
   -- and the number that it names behind that
-  pub number-told : numberFrom (fieldsOf m) ≡ numberFrom (decode settlementWidths s at)
+  pub number-told : numberIn m ≡ numberFrom (decode settlementWidths s at)
   unfolding fieldsAt
   number-told =
       let t = taken s at m n read in
-      ap (λ (b : BusMessage). numberFrom (fieldsOf b)) (t .message-is)
+      number-first-in m
+      ∙ ap (λ (b : BusMessage). numberFrom (fieldsOf b)) (t .message-is)
       ∙ ap numberFrom (fields-kept (t .kind) s at (t .kind-is) (t .laid))
       ∙ kind-laws (t .kind) .number-first _ s at
 

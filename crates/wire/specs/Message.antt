@@ -27,6 +27,11 @@ unfoldable pub kindOf : BusMessage → Kind
 kindOf (request r) = cond (r .asked .strong) Strong Weak
 kindOf (settlement n) = Settlement
 
+-- the number that a message names
+unfoldable pub numberIn : BusMessage → Number
+numberIn (request r) = r .number
+numberIn (settlement n) = n
+
 -- ---- the fields of a message, in the order of its layout
 
 -- those in front of the run, behind length and kind

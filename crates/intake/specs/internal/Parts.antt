@@ -14,7 +14,7 @@ use Rattle.request.specs.declared.Request.{Request}
 use Rattle.fields.specs.Widths.{weakWidths, contextWidths, size, decode}
 use Rattle.creek.specs.declared.Answer.{Answer}
 use Rattle.creek.specs.Book.{deliver}
-use Rattle.creek.specs.Replies.{refusedWith}
+use Rattle.creek.specs.Replies.{refusedWith, replyIn}
 use Rattle.replica.specs.State.{State}
 use Rattle.replica.specs.internal.Model.{Inv}
 use Rattle.replica.specs.internal.Parts.{Asks, KeptBy}
@@ -129,4 +129,4 @@ pub record ReceiveKept (panels : ℕ) (own : PanelNo) (l : Lent) (o : Outcome) (
 
 -- nothing was taken in, by that refusal
 abbrev pub nothing : ℕ → Receipt
-nothing w = record { answer = refusedWith w noNumber; taken = 0 }
+nothing w = record { reply = replyIn (refusedWith w noNumber); number = noNumber; kind = 0; taken = 0 }

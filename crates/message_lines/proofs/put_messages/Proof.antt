@@ -69,6 +69,10 @@ start c = c .before .before .before
 abbrev turn : tie.After-receive-arg14 Inv-loop μ-loop → tie.In-loop Inv-loop μ-loop
 turn c = c .before .before .before .before .before .before .before .before .before .before .before .before .before .before
 
+-- the receipt, from where it is known whether a message was read
+abbrev received : tie.After-struct-known Inv-loop μ-loop → tie.After-receive Inv-loop μ-loop
+received c = c .before .before
+
 -- the message whose due steps are called
 abbrev taken : tie.After-run-due-arg9 Inv-loop μ-loop → tie.Else1 Inv-loop μ-loop
 taken c = c .before .before .before .before .before .before .before .before .before .before .before
@@ -95,29 +99,32 @@ room c = let pre = start (c .before) .pre .1 .1 in line-room (c .before .loop .i
 -- ---- what cannot be read
 
 -- what the type says
-small : (c : tie.After-receive Inv-loop μ-loop) → c .receive .result .answer .refusal < 2 ^ 8
+small : (c : tie.After-receive Inv-loop μ-loop) → c .receive .result .reply .refusal < 2 ^ 8
 small c = search needs
+
+cast-taken : tie.Need-cast-taken Inv-loop μ-loop
+cast-taken c = search needs
 
 cast-put-unread : tie.Need-cast-put-unread Inv-loop μ-loop
 cast-put-unread c = search needs
 
 put-unread-requires : tie.Need-put-unread-requires Inv-loop μ-loop
 put-unread-requires c κs =
-    let call = c .before .before in
+    let call = received (c .before .before) in
     let t = turn (call .before) in
-    let short = unread-short (t .before .loop .place) (call .receive .result .answer .refusal) (omega (arith, room t .1)) (small call) in
+    let short = unread-short (t .before .loop .place) (call .receive .result .reply .refusal) (omega (arith, room t .1)) (small call) in
     record { fits = omega (arith, room t .0, short) }
 
 same-length : tie.Need-same-length Inv-loop μ-loop
 same-length c =
     let unread = c .before .before in
-    same-size (unread .put-unread .ensures) ∙ turn (unread .before .before .before .before) .before .loop .inv .lines .size
+    same-size (unread .put-unread .ensures) ∙ turn (received (unread .before .before .before) .before) .before .loop .inv .lines .size
 
 returns : tie.Need-returns Inv-loop μ-loop
 returns c =
     let unread = c .before .before in
     let none = unread .before .before in
-    let call = none .before in
+    let call = received (none .before) in
     let t = turn (call .before) in
     let put = t .before .loop .inv in
     let got = call .receive .ensures .kept (panelIn put) (put .invariant) in
@@ -126,28 +133,29 @@ returns c =
 -- ---- a message
 
 -- it lies within the bytes
-inside : (c : tie.Else1 Inv-loop μ-loop) → let call = c .before in
+inside : (c : tie.Else1 Inv-loop μ-loop) → let call = received (c .before) in
     let at = turn (call .before) .before .loop .at in
     let size = length (start (turn (call .before) .before) .args .input .now) in
     let n = call .receive .result .taken in
     (at + leastMessage ≤ size) × (leastMessage ≤ n) × (at + n ≤ size)
 inside c =
-    let t = turn (c .before .before) in
+    let call = received (c .before) in
+    let t = turn (call .before) in
     let put = t .before .loop .inv in
-    within put (t .loop-test .taken) (c .before .receive .ensures .kept (panelIn put) (put .invariant)) (c .if1 .left)
+    within put (t .loop-test .taken) (call .receive .ensures .kept (panelIn put) (put .invariant)) (c .if1 .left)
 
 run-due-requires : tie.Need-run-due-requires Inv-loop μ-loop
 run-due-requires c κs =
-    let call = taken c .before in
+    let call = received (taken c .before) in
     let put = turn (call .before) .before .loop .inv in
     let got = call .receive .ensures .kept (panelIn put) (put .invariant) in
     record { panel = stateAfter got; invariant = got .invariant }
 
 -- the counters have room for the steps
-counters-fit : (c : tie.After-run-due Inv-loop μ-loop) → let l = turn (taken (c .before) .before .before) .before .loop in
+counters-fit : (c : tie.After-run-due Inv-loop μ-loop) → let l = turn (received (taken (c .before) .before) .before) .before .loop in
     (l .undos + c .run-due .result .undos ≤ mostSteps) × (l .executions + c .run-due .result .executions ≤ mostSteps)
 counters-fit c =
-    let call = taken (c .before) .before in
+    let call = received (taken (c .before) .before) in
     let put = turn (call .before) .before .loop .inv in
     let got = call .receive .ensures .kept (panelIn put) (put .invariant) in
     let invariant = c .run-due .ensures .kept (stateAfter got) (got .invariant) .invariant in
@@ -162,28 +170,28 @@ add-executions-done c = omega (arith, counters-fit (c .before .before .before) .
 put-line-requires : tie.Need-put-line-requires Inv-loop μ-loop
 put-line-requires c κs =
     let some = taken (c .before .before .before .before .before) in
-    let fits = room (turn (some .before .before)) in
-    (fits .0, (fits .1, inside some .0))
+    let fits = room (turn (received (some .before) .before)) in
+    fits
 
 add-at : tie.Need-add-at Inv-loop μ-loop
 add-at c =
     let some = taken (ran c .before) in
-    omega (arith, inside some .2, start (turn (some .before .before) .before) .pre .1 .1 .0)
+    omega (arith, inside some .2, start (turn (received (some .before) .before) .before) .pre .1 .1 .0)
 
 add-place : tie.Need-add-place Inv-loop μ-loop
-add-place c = omega (arith, room (turn (taken (ran c .before) .before .before)) .1)
+add-place c = omega (arith, room (turn (received (taken (ran c .before) .before) .before)) .1)
 
 loop-less : tie.Need-loop-less Inv-loop μ-loop
 loop-less c =
     let some = taken (ran c .before) in
     let size = inside some in
-    omega (arith, size .1, size .2, turn (some .before .before) .loop-test .taken)
+    omega (arith, size .1, size .2, turn (received (some .before) .before) .loop-test .taken)
 
 loop-again : tie.Need-loop-again Inv-loop μ-loop
 loop-again c =
     let due = ran c in
     let some = taken (due .before) in
-    let call = some .before in
+    let call = received (some .before) in
     let t = turn (call .before) in
     let put = t .before .loop .inv in
     let got = call .receive .ensures .kept (panelIn put) (put .invariant) in
@@ -206,6 +214,7 @@ put-messages-spec =
     μ-loop
     loop-holds
     receive-requires
+    cast-taken
     cast-put-unread
     put-unread-requires
     same-length
