@@ -3,7 +3,6 @@
 // The panel's parts are lent as in `delivering` and `committing`, whose calls these are. `Intake` of `specs/` says what a message stands for and
 // what receiving promises.
 use creek::Reply;
-use fields::places;
 use fields::reading;
 use numbers::Number;
 use numbers::PanelNo;
@@ -11,18 +10,10 @@ use request::refusal;
 use wire::HeadAnswer;
 use wire::Kind;
 ghost use mathlib.Core.Path.{_≡_};
-ghost use Prim.Native.Nat.{_+_, _≤_};
-ghost use lib.ListN.{length, replicate};
-ghost use Rattle.numbers.specs.Numbers.{mostPanels};
-ghost use Rattle.fields.specs.Widths.{weakWidths, size, decode};
-ghost use Rattle.fields.specs.Contents.{requestFrom};
-ghost use Rattle.creek.specs.Book.{deliver as deliverCall};
 ghost use Rattle.creek.specs.Replies.{replyAnswer};
-ghost use Rattle.replica.specs.internal.Parts.{KeptBy};
 ghost use Rattle.wire.specs.Reader.{readAt};
 ghost use Rattle.wire.specs.Head.{GoodHead, messageAt};
-ghost use Rattle.intake.specs.internal.Parts.{lentNow, lentEntry, lentExit, takeParts, TakeAsks, Taken, nothing, ReceiveKept};
-ghost use Rattle.intake.specs.internal.Parts.{contextSize, contextIn, ContextPut, heardAt};
+ghost use Rattle.intake.specs.internal.Parts.{lentNow, lentEntry, lentExit, TakeAsks, Taken, nothing, ReceiveKept};
 
 // What the message at a place led to: the answer, which has no request; which message it was; and its bytes. Number, kind and bytes are 0
 // where none could be read.
@@ -131,48 +122,44 @@ fn take_at<'a>(
         (lentExit committed ordered executed commits held known awaiting clocks askings contexts order stack responses settled) (replyAnswer r) ⌝ }
 {
     match kind {
-        Kind::Weak => hear_at(
-            bytes,
-            at,
-            false,
-            panels,
-            own,
-            committed,
-            ordered,
-            executed,
-            commits,
-            held,
-            known,
-            awaiting,
-            clocks,
-            askings,
-            contexts,
-            order,
-            stack,
-            responses,
-            settled,
-        ),
-        Kind::Strong => hear_at(
-            bytes,
-            at,
-            true,
-            panels,
-            own,
-            committed,
-            ordered,
-            executed,
-            commits,
-            held,
-            known,
-            awaiting,
-            clocks,
-            askings,
-            contexts,
-            order,
-            stack,
-            responses,
-            settled,
-        ),
+        Kind::Weak => {
+            let standing = *committed;
+            hearing::hear_at(
+                bytes,
+                at,
+                false,
+                panels,
+                own,
+                standing,
+                ordered,
+                executed,
+                held,
+                known,
+                clocks,
+                askings,
+                contexts,
+                order,
+            )
+        }
+        Kind::Strong => {
+            let standing = *committed;
+            hearing::hear_at(
+                bytes,
+                at,
+                true,
+                panels,
+                own,
+                standing,
+                ordered,
+                executed,
+                held,
+                known,
+                clocks,
+                askings,
+                contexts,
+                order,
+            )
+        }
         Kind::Settlement => {
             let number = reading::number_at(bytes, at);
             let standing = *ordered;
@@ -195,72 +182,6 @@ fn take_at<'a>(
                 number,
             )
         }
-    }
-}
-
-// The request of that strength at a place is heard, with the words of its context where it is strong.
-fn hear_at<'a>(
-    bytes: &[u8],
-    at: usize,
-    strong: bool,
-    panels: u8,
-    own: PanelNo,
-    committed: &mut usize,
-    ordered: &mut usize,
-    executed: &mut usize,
-    commits: &mut u32,
-    held: &mut [u64; 8],
-    known: &mut [u64; 8],
-    awaiting: &mut [u64; 8],
-    clocks: &mut [u32; 512],
-    askings: &mut [u64; 512],
-    contexts: &mut [u64; 4096],
-    order: &mut [u16; 512],
-    stack: &'a [u16; 512],
-    responses: &'a [u32; 512],
-    settled: &mut [u64; 8],
-) -> Reply
-    requires { ⌜ at + size weakWidths + contextSize strong ≤ length (now bytes) ⌝ }
-    requires { ⌜ TakeAsks panels own
-        (lentNow committed ordered executed commits held known awaiting clocks askings contexts order stack responses settled) ⌝ }
-    ensures { λ r. ⌜ heardAt panels own
-        (lentEntry committed ordered executed commits held known awaiting clocks askings contexts order stack responses settled)
-        (requestFrom (decode weakWidths (now (bytes .entry)) at) strong (contextIn strong (now (bytes .entry)) at))
-        (lentExit committed ordered executed commits held known awaiting clocks askings contexts order stack responses settled) (replyAnswer r) ⌝ }
-{
-    let mut words = [0u64; 8];
-    put_context(&mut words, bytes, at, strong);
-    let number = reading::number_at(bytes, at);
-    let clock = reading::clock_at(bytes, at);
-    let asked = reading::asked_at(bytes, at, strong);
-    let standing = *committed;
-    let refusal = delivering::deliver(
-        panels,
-        own,
-        standing,
-        ordered,
-        executed,
-        held,
-        known,
-        clocks,
-        askings,
-        contexts,
-        order,
-        number,
-        clock,
-        asked,
-        &words,
-    );
-    replica::refusing(refusal)
-}
-
-// Puts the words of the context of a request of that strength at a place where zeros stand.
-fn put_context(words: &mut [u64; 8], bytes: &[u8], at: usize, strong: bool)
-    requires { ⌜ (now words ≡ replicate mostPanels 0) × (at + size weakWidths + contextSize strong ≤ length (now bytes)) ⌝ }
-    ensures { λ _. ⌜ ContextPut strong (now (bytes .entry)) at (now (words .exit)) ⌝ }
-{
-    if strong {
-        reading::words_at(words, bytes, at + places::CONTEXT_AT);
     }
 }
 

@@ -18,11 +18,11 @@ use Rattle.intake.proofs.take_at.Tie as tie
 abbrev start : tie.After-shared-slice-known → tie.Start
 start c = c .before
 
-abbrev weak : tie.After-hear-at-arg12 → tie.After-enum-told
-weak c = c .before .before .before .before .before .before .before .before .before .before .before .before
+abbrev weak : tie.After-hear-at-arg8 → tie.After-enum-told
+weak c = c .before .before .before .before .before .before .before .before .before
 
-abbrev strong : tie.After-hear-at-arg24 → tie.After-enum-told2
-strong c = c .before .before .before .before .before .before .before .before .before .before .before .before
+abbrev strong : tie.After-hear-at-arg16 → tie.After-enum-told2
+strong c = c .before .before .before .before .before .before .before .before .before
 
 abbrev numbered : tie.After-commit-arg11 → tie.After-number-at
 numbered c = c .before .before .before .before .before .before .before .before .before .before .before .before
@@ -47,7 +47,10 @@ hear-at-requires : tie.Need-hear-at-requires
 hear-at-requires c κs =
     let told = weak c in
     let here = told .before .before in
-    (omega (arith, weak-inside _ _ (good here Weak (told .enum-told .given .1))), start here .pre .1)
+    let a = start here in (
+      omega (arith, weak-inside _ _ (good here Weak (told .enum-told .given .1))),
+      record { panel = lent a (a .pre .1 .panel); invariant = a .pre .1 .invariant },
+    )
 
 enum-told-2 : tie.Need-enum-told-2
 enum-told-2 c = search needs
@@ -56,7 +59,10 @@ hear-at-requires-2 : tie.Need-hear-at-requires-2
 hear-at-requires-2 c κs =
     let told = strong c in
     let here = told .before .before in
-    (omega (arith, strong-inside _ _ (good here Strong (told .enum-told2 .given .1))), start here .pre .1)
+    let a = start here in (
+      omega (arith, strong-inside _ _ (good here Strong (told .enum-told2 .given .1))),
+      record { panel = lent a (a .pre .1 .panel); invariant = a .pre .1 .invariant },
+    )
 
 enum-told-3 : tie.Need-enum-told-3
 enum-told-3 c = search needs
@@ -74,14 +80,16 @@ unfolding callOf
 returns c =
     let told = weak (c .before) in
     let is = told .enum-told .given .1 in
-    rw (is, weak-message _ _ (good (told .before .before) Weak is)) (c .hear-at .ensures)
+    let a = start (told .before .before) in
+    rw (is, weak-message _ _ (good (told .before .before) Weak is)) (record { kept = λ p inv. c .hear-at .ensures .kept (lent a p) inv })
 
 returns-2 : tie.Need-returns-2
 unfolding callOf
 returns-2 c =
     let told = strong (c .before) in
     let is = told .enum-told2 .given .1 in
-    rw (is, strong-message _ _ (good (told .before .before) Strong is)) (c .hear-at2 .ensures)
+    let a = start (told .before .before) in
+    rw (is, strong-message _ _ (good (told .before .before) Strong is)) (record { kept = λ p inv. c .hear-at2 .ensures .kept (lent a p) inv })
 
 returns-3 : tie.Need-returns-3
 unfolding callOf

@@ -1,19 +1,12 @@
 -- What taking in a message asks and promises over the parts of a panel that it is lent.
-use Prim.Native.Nat.{ℕ, _+_}
-use mathlib.Core.Bool.{Bool, cond}
-use mathlib.Core.Path.{_≡_}
+use Prim.Native.Nat.{ℕ}
 use mathlib.Core.List.{List}
-use lib.ListN.{length}
 use denote.Ref.{RefT}
 use denote.Triple.Both.{Both}
 use Rattle.numbers.specs.declared.PanelNo.{PanelNo}
-use Rattle.numbers.specs.Numbers.{noNumber, mostPanels}
-use Rattle.sets.specs.declared.Context.{Context}
-use Rattle.sets.specs.Sets.{setOf, emptySet}
-use Rattle.request.specs.declared.Request.{Request}
-use Rattle.fields.specs.Widths.{weakWidths, contextWidths, size, decode}
+use Rattle.numbers.specs.Numbers.{noNumber}
+use Rattle.sets.specs.Sets.{setOf}
 use Rattle.creek.specs.declared.Answer.{Answer}
-use Rattle.creek.specs.Book.{deliver}
 use Rattle.creek.specs.Replies.{refusedWith, replyIn}
 use Rattle.replica.specs.State.{State}
 use Rattle.replica.specs.internal.Model.{Inv}
@@ -106,22 +99,6 @@ TakeAsks panels own l = Asks (takeParts panels own l)
 -- of every such panel: the call that the message m stands for was answered and carried out as `creek` says
 abbrev pub Taken : ℕ → PanelNo → Lent → BusMessage → Lent → Answer → Type 0
 Taken panels own l m l′ a = KeptBy (takeParts panels own l) (takeParts panels own l′) (callOf m) a
-
--- the context of a request of that strength whose message stands at a place, and its bytes
-abbrev pub contextIn : Bool → List ℕ → ℕ → Context
-contextIn strong s at = cond strong (setOf (decode contextWidths s (at + size weakWidths))) emptySet
-
-abbrev pub contextSize : Bool → ℕ
-contextSize strong = cond strong (size contextWidths) 0
-
--- those are the words of that context
-pub record ContextPut (strong : Bool) (s : List ℕ) (at : ℕ) (words : List ℕ) : Type 0 where
-  pub context : setOf words ≡ contextIn strong s at
-  pub long : length words ≡ mostPanels
-
--- of every such panel: x was heard with that answer
-abbrev pub heardAt : ℕ → PanelNo → Lent → Request → Lent → Answer → Type 0
-heardAt panels own l x l′ a = KeptBy (takeParts panels own l) (takeParts panels own l′) (deliver x) a
 
 -- of every such panel: what stands at the place was received
 pub record ReceiveKept (panels : ℕ) (own : PanelNo) (l : Lent) (o : Outcome) (l′ : Lent) (r : Receipt) : Type 0 where

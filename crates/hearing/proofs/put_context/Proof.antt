@@ -8,8 +8,8 @@ use Rattle.sets.specs.Sets.{setOf}
 use Rattle.fields.specs.Widths.{contextWidths}
 use Rattle.fields.proofs.WidthLaws.{length-decode}
 use borrow.Author.Needs.{needs}
-use Rattle.intake.proofs.put_context.Statement.{statement}
-use Rattle.intake.proofs.put_context.Tie as tie
+use Rattle.hearing.proofs.put_context.Statement.{statement}
+use Rattle.hearing.proofs.put_context.Tie as tie
 
 -- there is a word for each panel
 long : (c : tie.Start) → length (c .args .words .now) ≡ mostPanels

@@ -1,12 +1,10 @@
 -- `hear_at` meets its contract by that of `delivering::deliver`.
 use native.Mathlib.Omega.{arith}
 use mathlib.Core.Path.{refl}
-use Rattle.replica.specs.State.{State}
-use Rattle.intake.specs.internal.Parts.{lentNow, takeParts}
-use Rattle.intake.proofs.IntakeLaws.{request-read, heard-as}
+use Rattle.hearing.proofs.HearingLaws.{request-read, heard-as}
 use borrow.Author.Needs.{needs}
-use Rattle.intake.proofs.hear_at.Statement.{statement}
-use Rattle.intake.proofs.hear_at.Tie as tie
+use Rattle.hearing.proofs.hear_at.Statement.{statement}
+use Rattle.hearing.proofs.hear_at.Tie as tie
 
 -- ---- the places of the call
 
@@ -14,17 +12,10 @@ abbrev start : tie.After-put-context → tie.Start
 start c = c .before .before .before
 
 abbrev read : tie.After-words2 → tie.After-asked-at
-read c = c .before .before .before .before .before .before .before .before .before .before
+read c = c .before .before .before .before .before .before .before .before .before
 
 abbrev put : tie.After-asked-at → tie.After-put-context
 put c = c .before .before .before
-
--- a panel with the parts lent
-abbrev lent : tie.Start → State → State
-lent a =
-    takeParts (a .args .panels) (a .args .own) (lentNow (a .args .committed) (a .args .ordered) (a .args .executed) (a .args .commits)
-    (a .args .held) (a .args .known) (a .args .awaiting) (a .args .clocks) (a .args .askings) (a .args .contexts) (a .args .order)
-    (a .args .stack) (a .args .responses) (a .args .settled))
 
 -- ---- what the function needs
 
@@ -44,7 +35,7 @@ deliver-requires : tie.Need-deliver-requires
 deliver-requires c κs =
     let words = put (read c) in
     let a = start words in
-    record { parts = record { panel = lent a (a .pre .1 .panel); invariant = a .pre .1 .invariant }; long = words .put-context .ensures .long }
+    record { parts = a .pre .1; long = words .put-context .ensures .long }
 
 refusing-requires : tie.Need-refusing-requires
 refusing-requires c κs = search needs
@@ -57,8 +48,7 @@ returns c =
     let a = start words in
     let x = request-read (a .args .bytes .now) (a .args .at) (a .args .strong) (clock .before .number-at .ensures) (clock .clock-at .ensures) (asked .asked-at .ensures)
     (words .put-context .ensures .context) in
-    rw (c .refusing .ensures)
-    (heard-as x (record { kept = λ p inv. c .before .deliver .ensures .kept (lent a p) inv }))
+    rw (c .refusing .ensures) (heard-as x (c .before .deliver .ensures))
 
 pub hear-at-spec : {M : Type 1} → statement M
 hear-at-spec =

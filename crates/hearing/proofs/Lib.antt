@@ -1,0 +1,2 @@
+-- Laws of a request that is heard from bytes.
+mod HearingLaws
