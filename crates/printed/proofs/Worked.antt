@@ -1,4 +1,4 @@
--- Document 01's worked example: the whole printout of its 126 bytes, by computation.
+-- Document 01's worked example, by computation: the whole printout of its 126 bytes, and what a receipt tells of each message in them.
 use Prim.Native.Nat.{ℕ}
 use mathlib.Core.Path.{_≡_, refl}
 use mathlib.Core.List.{List, [], _∷_, _++_}
@@ -25,7 +25,7 @@ use Rattle.fields.specs.Widths.{decode}
 use Rattle.wire.specs.Message.{kindOf, messageFrom, numberIn}
 use Rattle.wire.specs.Reader.{lengthAt, kindAt, runAt, fieldsAt, spareSet, refusalAs, readAs, readAt}
 use Rattle.report.specs.Lines.{boardLine, messageLine, totalsLine, registerLine, lineUnlessZero, registerLinesFrom, registerLines}
-use Rattle.intake.specs.Intake.{callOf}
+use Rattle.intake.specs.Intake.{callOf, numberTold, kindTold}
 use Rattle.runs.specs.Found.{found}
 use Rattle.printed.specs.Printout.{after, afterAll, lineOfMessage, lineFor, refusalIn}
 use Rattle.printed.specs.Printout.{messageLines, closing, printoutOf, printout}
@@ -83,3 +83,16 @@ unfolding significant decimal restOfLine line sameNumber badNumber sameOperation
     registerLinesFrom registerLines found callOf after afterAll numberIn lineOfMessage lineFor refusalIn messageLines closing printoutOf
     printout ascii
 printout-worked = refl
+
+-- what a receipt tells of what stands at a place of it: kind, panel, event
+abbrev told : ℕ → List ℕ
+told at =
+    let o = readAt workedInput at in
+    kindTold o ∷ numberTold o .panel .0 ∷ numberTold o .event .0 ∷ []
+
+-- of the four messages, of the last byte alone, and of the end
+pub receipts-worked : told 2 ++ told 20 ++ told 38 ++ told 120 ++ told 125 ++ told 126
+    ≡ 1 ∷ 0 ∷ 1 ∷ 1 ∷ 1 ∷ 1 ∷ 2 ∷ 1 ∷ 2 ∷ 3 ∷ 1 ∷ 2 ∷ 0 ∷ 0 ∷ 0 ∷ 0 ∷ 0 ∷ 0 ∷ []
+unfolding integerAt kindWith layout widthsWith leastSize mostSize decode kindOf messageFrom lengthAt kindAt runAt fieldsAt spareSet refusalAs
+    readAs readAt numberIn numberTold kindTold
+receipts-worked = refl
