@@ -65,7 +65,7 @@ pub fn receive<'a>(
     let found = head.answer;
     match found {
         HeadAnswer::Good(kind) => {
-            let number = reading::number_at(bytes, at);
+            let named = reading::number_at(bytes, at);
             let told = wire::kind_number(kind) as u16;
             let reply = take_at(
                 bytes,
@@ -91,7 +91,7 @@ pub fn receive<'a>(
             let taken = head.taken as u32;
             Receipt {
                 reply,
-                number,
+                number: named,
                 kind: told,
                 taken,
             }
