@@ -54,8 +54,8 @@ answers-told = refl
 
 -- what each showing call shows
 pub shown-told : map (λ (c : Case). c .computed) shownCases ≡ map (λ (c : Case). c .said) shownCases
-unfolding shownCases bothHeld registerAt placeAt counts shopOf requestFields driven sameNumber badNumber sameOperation badOperation sameAsked
-    badAsked sameWords sameContext allZero isEmpty namesFrom bit member join leave lackedWords difference subset lowestFrom lowest
+unfolding shownCases bothHeld registerAt placeAt counts shopOf requestFields driven sameNumber badNumber sameOperation badOperation
+    sameAsked badAsked sameWords sameContext allZero isEmpty namesFrom bit member join leave lackedWords difference subset lowestFrom lowest
     lowestLacking before sameRequest badContext offBoard added claimed amountMoved moved exec response replayOn replay lastEvent
     lastClock entered without atLeast made committing committingFound invokeRefusal deliverRefusal commitRefusal registers adjusted
     undone undoRefusal executedNext executeRefusal refusal accepted responseOn responseIn executionMark executionReply undoReply

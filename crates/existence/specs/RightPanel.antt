@@ -42,7 +42,8 @@ rightRunDue p = record {
   state = memoryOf (idled (model p));
 }
 
--- what stands at a place, received: a message as its call, told by its number and kind, with its bytes taken; what cannot be read leaves the memory as it was
+-- what stands at a place, received: a message as its call, told by its number and kind, with its bytes taken; what
+-- cannot be read leaves the memory as it was
 unfoldable pub rightReceived : State → Outcome → Reception
 rightReceived p (message m n) = record {
   receipt = record {

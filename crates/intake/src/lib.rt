@@ -56,7 +56,7 @@ pub fn receive<'a>(
     let found = head.answer;
     match found {
         HeadAnswer::Good(kind) => {
-            let number = reading::number_at(bytes, at);
+            let named = reading::number_at(bytes, at);
             let told = wire::kind_number(kind) as u16;
             let reply = take_at(
                 bytes,
@@ -82,7 +82,7 @@ pub fn receive<'a>(
             let taken = head.taken as u32;
             Receipt {
                 reply,
-                number,
+                number: named,
                 kind: told,
                 taken,
             }

@@ -42,8 +42,8 @@ message-by (message m n) r e took = (m, ap (message m) (sym e))
 message-by end r e took = absurd (took e)
 message-by (refused w) r e took = absurd (took e)
 
-refused-by : (p : Replica) (o : Outcome) (r : Receipt) → r .taken ≡ answered o .taken → replyAnswer (r .reply) ≡ answerTo p o → (o ≡ end → ⊥)
-    → ((m : BusMessage) (n : ℕ) → o ≡ message m n → leastMessage ≤ n) → r .taken ≡ 0 → o ≡ refused (r .reply .refusal)
+refused-by : (p : Replica) (o : Outcome) (r : Receipt) → r .taken ≡ answered o .taken → replyAnswer (r .reply) ≡ answerTo p o
+    → (o ≡ end → ⊥) → ((m : BusMessage) (n : ℕ) → o ≡ message m n → leastMessage ≤ n) → r .taken ≡ 0 → o ≡ refused (r .reply .refusal)
 unfolding answered answerTo
 refused-by p (message m n) r e a more least untaken = absurd (omega (arith, least m n refl))
 refused-by p end r e a more least untaken = absurd (more refl)
@@ -152,7 +152,8 @@ module _ {p₀ : State} {s out : List ℕ} {from : ℕ} {p : State} {out₁ : Li
 
         module _ {d : DueSteps} {q₁ : State} (ran : RunDue q (ranTo d q₁))
             (counted : q₁ .counters .undos ≡ p .counters .undos + d .undos) where
-          pub put-step : {out₂ : List ℕ} {behind₂ : ℕ} → LinePut place (r .kind) (r .number) (r .reply .refusal) (d .undos) out₁ behind out₂ behind₂
+          pub put-step : {out₂ : List ℕ} {behind₂ : ℕ}
+              → LinePut place (r .kind) (r .number) (r .reply .refusal) (d .undos) out₁ behind out₂ behind₂
               → Putting p₀ s out from q₁ out₂ (at + r .taken) behind₂ (place + 1)
           unfolding afterAll after refusalIn answerTo received
           put-step {out₂} {behind₂} w =

@@ -12,7 +12,8 @@ use Rattle.runs.specs.Found.{foundFrom}
 use Rattle.printed.specs.Printout.{afterAll, messageLines, shopBytes, mostMessages}
 
 -- the line of a message of that kind that names that number was put
-pub record LinePut (place kind : ℕ) (number : Number) (refusal undone : ℕ) (out : List ℕ) (at : ℕ) (out′ : List ℕ) (behind : ℕ) : Type 0 where
+pub record LinePut (place kind : ℕ) (number : Number) (refusal undone : ℕ) (out : List ℕ) (at : ℕ) (out′ : List ℕ) (behind : ℕ)
+    : Type 0 where
   pub written : Placed out at (messageLine place kind (number .panel .0) (number .event .0) refusal undone) out′ behind
   pub few : behind ≤ at + mostMessageBytes
 

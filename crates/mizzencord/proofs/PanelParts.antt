@@ -44,7 +44,7 @@ placed (R ∷ Rs) (m ∷ ms) e = (R, up (align (m .ty)) e) ∷ placed Rs ms (up 
 
 abbrev pub panelFields : List Placed
 panelFields =
-    placed (UInt w64 ∷ UInt w64 ∷ UInt w64 ∷ UInt w64 ∷ UInt w32 ∷ UInt w32 ∷ Cs.the-row ∷ UInt w8 ∷ Pa.the-row ∷ UInt w8 ∷
+    placed (UInt w64 ∷ UInt w64 ∷ UInt w64 ∷ UInt w64 ∷ UInt w32 ∷ UInt w32 ∷ Cs.the-row ∷ UInt w8 ∷ Pa.the-row ∷ UInt w8 ∷ Array (UInt w8) 5 ∷
     Array (UInt w64) 8 ∷ Array (UInt w64) 8 ∷ Array (UInt w64) 8 ∷ Array (UInt w32) 512 ∷ Array (UInt w64) 512 ∷
     Array (UInt w64) 4096 ∷ Array (UInt w16) 512 ∷ Array (UInt w16) 512 ∷ Array (UInt w32) 64 ∷ Array (UInt w64) 512 ∷
     Array (UInt w32) 512 ∷ Array (UInt w64) 8 ∷ []) ms zero
@@ -80,41 +80,44 @@ own-field = 8
 abbrev pub events-field : ℕ
 events-field = 9
 
+abbrev pub spare-field : ℕ
+spare-field = 10
+
 abbrev pub held-field : ℕ
-held-field = 10
+held-field = 11
 
 abbrev pub known-field : ℕ
-known-field = 11
+known-field = 12
 
 abbrev pub awaiting-field : ℕ
-awaiting-field = 12
+awaiting-field = 13
 
 abbrev pub clocks-field : ℕ
-clocks-field = 13
+clocks-field = 14
 
 abbrev pub askings-field : ℕ
-askings-field = 14
+askings-field = 15
 
 abbrev pub contexts-field : ℕ
-contexts-field = 15
+contexts-field = 16
 
 abbrev pub order-field : ℕ
-order-field = 16
+order-field = 17
 
 abbrev pub stack-field : ℕ
-stack-field = 17
+stack-field = 18
 
 abbrev pub registers-field : ℕ
-registers-field = 18
+registers-field = 19
 
 abbrev pub saved-field : ℕ
-saved-field = 19
+saved-field = 20
 
 abbrev pub responses-field : ℕ
-responses-field = 20
+responses-field = 21
 
 abbrev pub settled-field : ℕ
-settled-field = 21
+settled-field = 22
 
 abbrev pub parts : Panel → AllHere panelFields
 parts p = T.struct .as-values p
@@ -131,7 +134,7 @@ module _ {M : Type 1} (𝓤 : URA M) (H : Heap 𝓤) (A : Atoms 𝓤) (W : Given
     same : (p : Panel) → partsAt t ms zero (T.the-type .to p) b o ≡ all-fields b o t panelFields (parts p)
     unfolding partOf
     same p = λ i. partsAt t ms zero
-        (p .committed, (p .ordered, (p .executed, (p .stacked, (p .commits, (p .clock, (Cs.the-type .to (p .counters), (p .panels, (Pa.the-type .to (p .own), (p .events, (map-id (p .held) i, (map-id (p .known) i, (map-id (p .awaiting) i, (map-id (p .clocks) i, (map-id (p .askings) i, (map-id (p .contexts) i, (map-id (p .order) i, (map-id (p .stack) i, (map-id (p .registers) i, (map-id (p .saved) i, (map-id (p .responses) i, (map-id (p .settled) i, tt)))))))))))))))))))))) b o
+        (p .committed, (p .ordered, (p .executed, (p .stacked, (p .commits, (p .clock, (Cs.the-type .to (p .counters), (p .panels, (Pa.the-type .to (p .own), (p .events, (map-id (p .spare) i, (map-id (p .held) i, (map-id (p .known) i, (map-id (p .awaiting) i, (map-id (p .clocks) i, (map-id (p .askings) i, (map-id (p .contexts) i, (map-id (p .order) i, (map-id (p .stack) i, (map-id (p .registers) i, (map-id (p .saved) i, (map-id (p .responses) i, (map-id (p .settled) i, tt))))))))))))))))))))))) b o
 
     apart : (p : Panel) → ent 𝓤 (sem 𝓤 H A (partAt T.the-row t p b o)) (sep 𝓤 (sem 𝓤 H A (all-fields b o t panelFields (parts p))) Back)
     unfolding partOf

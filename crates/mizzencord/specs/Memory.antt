@@ -1,4 +1,8 @@
 -- A panel in place, as the state that the contracts of the calls speak of.
+use Prim.Native.Nat.{ℕ}
+use mathlib.Core.Path.{_≡_}
+use mathlib.Core.List.{List}
+use lib.ListN.{replicate}
 use Rattle.numbers.specs.Numbers.{clockReading}
 use Rattle.sets.specs.Sets.{setOf}
 use Rattle.replica.specs.State.{State}
@@ -31,6 +35,14 @@ memory p = record {
   responses = p .responses;
   settled = setOf (p .settled);
 }
+
+-- the bytes that no call looks at, cleared
+abbrev pub noSpare : List ℕ
+noSpare = replicate 5 0
+
+-- those of q are those of p
+abbrev pub SameSpare : Panel → Panel → Type 0
+SameSpare p q = q .spare ≡ p .spare
 
 -- all due steps with that result led to that state
 abbrev pub ran : DueSteps → State → DueOutcome

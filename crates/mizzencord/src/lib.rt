@@ -4,6 +4,7 @@
 // or `due` uses, which does the work in place: nothing is copied. `include/mizzencord.h` declares all calls, and `docs/CALLS.md` says
 // what they answer. Here are the calls that change a panel; those that show one are in `showing`, those on bytes alone in `bytes`.
 pub mod bytes;
+pub mod opening;
 pub mod showing;
 
 use counters::Counters;
@@ -21,10 +22,11 @@ ghost use Rattle.replica.specs.internal.Model.{Inv};
 ghost use Rattle.due.specs.Due.{RunDue};
 ghost use Rattle.wire.specs.Reader.{readAt};
 ghost use Rattle.intake.specs.Intake.{Received};
-ghost use Rattle.mizzencord.specs.Memory.{memory, ran};
+ghost use Rattle.mizzencord.specs.Memory.{memory, noSpare, SameSpare, ran};
 ghost use Rattle.mizzencord.specs.Version.{version};
 
-// A panel's memory. Only this crate makes and changes one.
+// A panel's memory. Only this crate makes and changes one. The spare bytes stand where the arrays would leave a gap: fresh clears them and
+// no call changes them, so that equal memories have equal bytes.
 #[repr(C)]
 pub struct Panel {
     committed: usize,
@@ -37,6 +39,7 @@ pub struct Panel {
     panels: u8,
     own: PanelNo,
     events: u8,
+    spare: [u8; 5],
     held: [u64; 8],
     known: [u64; 8],
     awaiting: [u64; 8],
@@ -54,9 +57,10 @@ pub struct Panel {
 // Makes the lent panel one of a shift's first moment; a refused one is a one-panel shop, panel 0. The answer is the refusal.
 #[no_mangle]
 pub extern "C" fn mizzencord_fresh(p: &mut Panel, panels: u8, own: PanelNo) -> u8
-    ensures { λ w. ⌜ Fresh panels (own .0) (record { refusal = w; state = memory (now (p .exit)) }) ⌝ }
+    ensures { λ w. ⌜ Fresh panels (own .0) (record { refusal = w; state = memory (now (p .exit)) })
+        × (now (p .exit) .spare ≡ noSpare) ⌝ }
 {
-    let opened = replica::fresh(
+    let opened = opening::open(
         &mut p.committed,
         &mut p.ordered,
         &mut p.executed,
@@ -65,6 +69,7 @@ pub extern "C" fn mizzencord_fresh(p: &mut Panel, panels: u8, own: PanelNo) -> u
         &mut p.clock,
         &mut p.panels,
         &mut p.events,
+        &mut p.spare,
         &mut p.held,
         &mut p.known,
         &mut p.awaiting,
@@ -89,7 +94,8 @@ pub extern "C" fn mizzencord_fresh(p: &mut Panel, panels: u8, own: PanelNo) -> u
 #[no_mangle]
 pub extern "C" fn mizzencord_invoke(p: &mut Panel, i: Invocation) -> Answer
     requires { ⌜ Inv (memory (now p)) ⌝ }
-    ensures { λ a. ⌜ Kept (memory (now (p .entry))) (invokeCall i) (record { answer = a; state = memory (now (p .exit)) }) ⌝ }
+    ensures { λ a. ⌜ Kept (memory (now (p .entry))) (invokeCall i) (record { answer = a; state = memory (now (p .exit)) })
+        × SameSpare (now (p .entry)) (now (p .exit)) ⌝ }
 {
     invoking::invoke(
         p.own,
@@ -113,7 +119,8 @@ pub extern "C" fn mizzencord_invoke(p: &mut Panel, i: Invocation) -> Answer
 #[no_mangle]
 pub extern "C" fn mizzencord_deliver(p: &mut Panel, x: Request) -> Answer
     requires { ⌜ Inv (memory (now p)) ⌝ }
-    ensures { λ a. ⌜ Kept (memory (now (p .entry))) (deliverCall x) (record { answer = a; state = memory (now (p .exit)) }) ⌝ }
+    ensures { λ a. ⌜ Kept (memory (now (p .entry))) (deliverCall x) (record { answer = a; state = memory (now (p .exit)) })
+        × SameSpare (now (p .entry)) (now (p .exit)) ⌝ }
 {
     delivering::deliver_request(
         p.panels,
@@ -135,7 +142,8 @@ pub extern "C" fn mizzencord_deliver(p: &mut Panel, x: Request) -> Answer
 #[no_mangle]
 pub extern "C" fn mizzencord_commit(p: &mut Panel, n: Number) -> Answer
     requires { ⌜ Inv (memory (now p)) ⌝ }
-    ensures { λ a. ⌜ Kept (memory (now (p .entry))) (commitCall n) (record { answer = a; state = memory (now (p .exit)) }) ⌝ }
+    ensures { λ a. ⌜ Kept (memory (now (p .entry))) (commitCall n) (record { answer = a; state = memory (now (p .exit)) })
+        × SameSpare (now (p .entry)) (now (p .exit)) ⌝ }
 {
     committing::commit_answer(
         p.panels,
@@ -161,7 +169,8 @@ pub extern "C" fn mizzencord_commit(p: &mut Panel, n: Number) -> Answer
 #[no_mangle]
 pub extern "C" fn mizzencord_receive(p: &mut Panel, bytes: &[u8], at: usize) -> Receipt
     requires { ⌜ Inv (memory (now p)) ⌝ }
-    ensures { λ r. ⌜ Received (memory (now (p .entry))) (readAt (now (bytes .entry)) at) r (memory (now (p .exit))) ⌝ }
+    ensures { λ r. ⌜ Received (memory (now (p .entry))) (readAt (now (bytes .entry)) at) r (memory (now (p .exit)))
+        × SameSpare (now (p .entry)) (now (p .exit)) ⌝ }
 {
     intake::receive(
         bytes,
@@ -189,7 +198,8 @@ pub extern "C" fn mizzencord_receive(p: &mut Panel, bytes: &[u8], at: usize) -> 
 #[no_mangle]
 pub extern "C" fn mizzencord_undo(p: &mut Panel) -> Answer
     requires { ⌜ Inv (memory (now p)) ⌝ }
-    ensures { λ a. ⌜ Kept (memory (now (p .entry))) undoCall (record { answer = a; state = memory (now (p .exit)) }) ⌝ }
+    ensures { λ a. ⌜ Kept (memory (now (p .entry))) undoCall (record { answer = a; state = memory (now (p .exit)) })
+        × SameSpare (now (p .entry)) (now (p .exit)) ⌝ }
 {
     let done = steps::undo_step(
         p.executed,
@@ -207,7 +217,8 @@ pub extern "C" fn mizzencord_undo(p: &mut Panel) -> Answer
 #[no_mangle]
 pub extern "C" fn mizzencord_execute(p: &mut Panel) -> Answer
     requires { ⌜ Inv (memory (now p)) ⌝ }
-    ensures { λ a. ⌜ Kept (memory (now (p .entry))) executeCall (record { answer = a; state = memory (now (p .exit)) }) ⌝ }
+    ensures { λ a. ⌜ Kept (memory (now (p .entry))) executeCall (record { answer = a; state = memory (now (p .exit)) })
+        × SameSpare (now (p .entry)) (now (p .exit)) ⌝ }
 {
     let done = steps::execute_step(
         p.committed,
@@ -230,7 +241,8 @@ pub extern "C" fn mizzencord_execute(p: &mut Panel) -> Answer
 #[no_mangle]
 pub extern "C" fn mizzencord_run_due(p: &mut Panel) -> DueSteps
     requires { ⌜ Inv (memory (now p)) ⌝ }
-    ensures { λ r. ⌜ RunDue (memory (now (p .entry))) (ran r (memory (now (p .exit)))) ⌝ }
+    ensures { λ r. ⌜ RunDue (memory (now (p .entry))) (ran r (memory (now (p .exit))))
+        × SameSpare (now (p .entry)) (now (p .exit)) ⌝ }
 {
     let done = due::run_due(
         p.committed,

@@ -6,9 +6,11 @@ use numbers::PanelNo;
 use request::operations as operation;
 use request::refusal;
 use store::requests as stored;
-ghost use Rattle.creek.specs.Showing.{requestsShown, commitsShown, undosShown, executionsShown, owedShown, panelsShown, ownShown, madeShown};
+ghost use Rattle.creek.specs.Showing.{requestsShown, commitsShown, undosShown, executionsShown, owedShown};
+ghost use Rattle.creek.specs.Showing.{panelsShown, ownShown, madeShown};
 ghost use Rattle.replica.specs.Shown.{committedShown};
-ghost use Rattle.replica.specs.internal.Parts.{Asks, Shows, withOrdered, withCommitted, withCommits, withCounters, withOwed, withPanels, withOwn, withEvents, RegisterKept, PlaceAsks, PlaceKept};
+ghost use Rattle.replica.specs.internal.Parts.{Asks, Shows, withOrdered, withCommitted, withCommits, withCounters, withOwed};
+ghost use Rattle.replica.specs.internal.Parts.{withPanels, withOwn, withEvents, RegisterKept, PlaceAsks, PlaceKept};
 
 // The value of register k.
 pub fn register(registers: &[u32; 64], k: u8) -> RegisterValue

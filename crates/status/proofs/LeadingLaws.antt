@@ -1,5 +1,5 @@
--- Laws of the elements at the front of a list that fail a test: behind them stands the first that passes it, and its response is that of the
--- request there.
+-- Laws of the first element of a list that passes a test, which stands behind those that fail it; and of the response of the first request
+-- of a number.
 use Prim.Native.Nat.{ℕ, zero, suc, _+_, _≤_, _<_}
 use native.Mathlib.Omega.{arith}
 use mathlib.Core.Path.{_≡_, refl, ap}
@@ -10,7 +10,6 @@ use Rattle.lists.specs.Lists.{one, count}
 use Rattle.lists.specs.Places.{leading}
 use Rattle.numbers.specs.declared.Number.{Number}
 use Rattle.request.specs.declared.Request.{Request}
-use Rattle.request.specs.Operations.{noOperation}
 use Rattle.request.specs.Asked.{operationOf}
 use Rattle.effects.specs.Effect.{exec, response}
 use Rattle.effects.specs.Replay.{replayOn}

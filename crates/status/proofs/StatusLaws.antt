@@ -3,13 +3,12 @@ use Prim.Native.Nat.{ℕ, suc, _+_, _≤_, _<_}
 use native.Mathlib.Omega.{arith}
 use mathlib.Core.Path.{_≡_, refl, sym, ap, _∙_}
 use mathlib.Core.Bool.{Bool, true, false, not, cond}
-use mathlib.Core.List.{List, map}
-use lib.ListN.{length, take, getD, List·getD-map}
-use lib.Seq.{take-take, getD-take, length-take-le}
-use lib.Dec.{eqb, leb, ltb}
-use borrow.Author.Tests.{le-leb, lt-leb, lt-ltb, le-ltb}
+use mathlib.Core.List.{List}
+use lib.ListN.{length, take, getD}
+use lib.Seq.{take-take, getD-take}
+use lib.Dec.{leb, ltb}
+use borrow.Author.Tests.{lt-ltb, le-ltb}
 use Rattle.lists.specs.Lists.{one, count, somePasses}
-use Rattle.lists.specs.Places.{leading}
 use Rattle.lists.proofs.AllLaws.{all-weaken}
 use Rattle.lists.proofs.ListLaws.{one-true, passes-count}
 use Rattle.lists.proofs.MapLaws.{leading-map, leading-agree, map-take}

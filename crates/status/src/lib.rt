@@ -1,6 +1,6 @@
 // What a panel has of a request, by its number: its place, whether it is settled, awaited and executed, and with which response.
 //
-// The parts of a panel are lent as in `replica`. A request of the standing order is executed where it stands before the mark `executed`, and
+// The parts of a panel are lent as in `replica`. A request of the standing order is executed where fewer than `executed` stand before it, and
 // its response is then kept at its place.
 use numbers::Number;
 use request::refusal;

@@ -23,7 +23,8 @@ use Rattle.wire.specs.declared.Kind.{Kind}
 use Rattle.wire.specs.Layout.{kindNumber, kindWith, widthsWith, leastSize, mostSize, leastMessage, longestMessage}
 use Rattle.fields.specs.Widths.{size, decode, encode, Within}
 use Rattle.fields.specs.Widths.{lengthField, kindField, headFields, headSize}
-use Rattle.wire.specs.Message.{BusMessage, request, settlement, kindOf, numberIn, frontOf, runOf, contents, widthsOf, sizeOf, fieldsOf, bytesOf, messageFrom}
+use Rattle.wire.specs.Message.{BusMessage, request, settlement, kindOf, numberIn}
+use Rattle.wire.specs.Message.{frontOf, runOf, contents, widthsOf, sizeOf, fieldsOf, bytesOf, messageFrom}
 use Rattle.fields.specs.Contents.{numberFrom}
 use Rattle.wire.specs.Message.{weakWithContext, Fits}
 use Rattle.wire.specs.Reader.{Outcome, message, end, refused, answered}

@@ -17,7 +17,8 @@ use Rattle.creek.specs.examples.Answers.{hear, claiming, overtakingCalls
 unfoldable pub statusAfter : List Call → Number → List ℕ
 statusAfter calls n =
     let r = run (fresh 2 0) calls in
-    statusRefusal r n ∷ statusPlace r n ∷ one (statusSettled r n) ∷ one (statusAwaited r n) ∷ one (statusExecuted r n) ∷ statusResponse r n ∷ []
+    statusRefusal r n ∷ statusPlace r n ∷ one (statusSettled r n) ∷ one (statusAwaited r n) ∷ one (statusExecuted r n)
+    ∷ statusResponse r n ∷ []
 
 -- register 4 is added to twice, the second time by an own request
 abbrev pub bothAdd : List Call

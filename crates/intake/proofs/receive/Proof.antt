@@ -24,7 +24,8 @@ headed c = c .before .before .before
 
 -- the message that the head tells
 reads : (c : tie.After-known-told) → let a = headed c .before .before .args in
-    readAt (a .bytes .now) (a .at) ≡ message (messageAt (c .before .found .given .0 .0) (a .bytes .now) (a .at)) (headed c .head-at .result .taken)
+    readAt (a .bytes .now) (a .at)
+    ≡ message (messageAt (c .before .found .given .0 .0) (a .bytes .now) (a .at)) (headed c .head-at .result .taken)
 reads c = good-reads _ _ _ (headed c .head-at .ensures) _ (c .before .found .given .1)
 
 -- ---- what the function needs

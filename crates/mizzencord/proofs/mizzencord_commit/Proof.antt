@@ -45,7 +45,7 @@ abbrev numbers : List (Read T.the-row T′.mir)
 numbers = panels-read ∷ ordered-read ∷ []
 
 abbrev lent : List Choice
-lent = is-changed ∷ stays ∷ is-changed ∷ stays ∷ is-changed ∷ stays ∷ stays ∷ stays ∷ stays ∷ stays ∷ is-read-first ∷ is-changed ∷ is-changed ∷ is-read ∷ is-read ∷ is-read ∷ is-changed ∷ is-read ∷ stays ∷ stays ∷ is-read ∷ is-changed ∷ []
+lent = is-changed ∷ stays ∷ is-changed ∷ stays ∷ is-changed ∷ stays ∷ stays ∷ stays ∷ stays ∷ stays ∷ stays ∷ is-read-first ∷ is-changed ∷ is-changed ∷ is-read ∷ is-read ∷ is-read ∷ is-changed ∷ is-read ∷ stays ∷ stays ∷ is-read ∷ is-changed ∷ []
 
 pub mizzencord-commit-spec : {M : Type 1} → stated.statement M
 unfolding code.routine tablesOf
@@ -75,5 +75,5 @@ mizzencord-commit-spec 𝓤 H 𝓜 𝓖 𝓡 =
           (settled .makes 𝓤 H (𝓖 .A) W (a .0) _ (are .0), tt))
           (factI 𝓤 _ _ (record { panel = memory h; invariant = ok })) (λ κ ns. known _)
           ((tt, refl), ((tt, refl), ((tt, refl), ((tt, refl), ((tt, refl), ((tt, refl), ((tt, refl), ((tt, refl), ((tt, refl), ((tt, refl), ((tt, refl), ((tt, refl), ((tt, refl), ((tt, refl), ((tt, refl), ((tt, refl), tt)))))))))))))))) tt refl
-          (λ r zs is kept. k r (after zs) vs is (factI 𝓤 _ _ (kept .kept (memory h) ok)) tt);
+          (λ r zs is kept. k r (after zs) vs is (factI 𝓤 _ _ (kept .kept (memory h) ok, refl)) tt);
     }))

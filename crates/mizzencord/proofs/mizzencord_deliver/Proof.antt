@@ -46,7 +46,7 @@ abbrev numbers : List (Read T.the-row T′.mir)
 numbers = panels-read ∷ own-read ∷ committed-read ∷ []
 
 abbrev lent : List Choice
-lent = stays ∷ is-changed ∷ is-changed ∷ stays ∷ stays ∷ stays ∷ stays ∷ stays ∷ stays ∷ stays ∷ is-changed ∷ is-changed ∷ stays ∷ is-changed ∷ is-changed ∷ is-changed ∷ is-changed ∷ []
+lent = stays ∷ is-changed ∷ is-changed ∷ stays ∷ stays ∷ stays ∷ stays ∷ stays ∷ stays ∷ stays ∷ stays ∷ is-changed ∷ is-changed ∷ stays ∷ is-changed ∷ is-changed ∷ is-changed ∷ is-changed ∷ []
 
 pub mizzencord-deliver-spec : {M : Type 1} → stated.statement M
 unfolding code.routine tablesOf
@@ -76,5 +76,5 @@ mizzencord-deliver-spec 𝓤 H 𝓜 𝓖 𝓡 =
           (heard .makes 𝓤 H (𝓖 .A) W (a .0) _ (are .0), tt))
           (factI 𝓤 _ _ (record { panel = memory h; invariant = ok })) (λ κ ns. known _)
           ((tt, refl), ((tt, refl), ((tt, refl), ((tt, refl), ((tt, refl), ((tt, refl), ((tt, refl), ((tt, refl), ((tt, refl), ((tt, refl), ((tt, refl), ((tt, refl), tt)))))))))))) tt refl
-          (λ r zs is kept. k r (after zs) vs is (factI 𝓤 _ _ (kept .kept (memory h) ok)) tt);
+          (λ r zs is kept. k r (after zs) vs is (factI 𝓤 _ _ (kept .kept (memory h) ok, refl)) tt);
     }))

@@ -1,6 +1,6 @@
 -- `mizzencord::mizzencord_fresh` meets its contract: its MIR is that of a function that lends the numbers and arrays of a panel, to
--- `replica::fresh`, and stores the counters and the own number.
-use mathlib.Core.Path.{refl}
+-- `opening::open`, and stores the counters and the own number.
+use mathlib.Core.Path.{_≡_, refl}
 use Prim.Native.Nat.{ℕ, _+_}
 use mathlib.Core.List.{List, [], _∷_, _++_}
 use mathlib.Core.Option.{some}
@@ -34,10 +34,8 @@ use Rattle.replica.specs.Promises.{Fresh}
 use Rattle.replica.specs.internal.Parts.{openedBy}
 use Rattle.replica.proofs.Opening as Op
 use Rattle.replica.proofs.Opening.Laws as Op′
-use Rattle.replica.proofs.fresh as callee
-use Rattle.replica.proofs.fresh.Symbol as callee-def
-use Rattle.replica.proofs.fresh.Met as callee-thm
 use Rattle.mizzencord.specs.declared.Panel.{Panel}
+use Rattle.mizzencord.specs.Memory.{noSpare}
 use Rattle.mizzencord.proofs.Panel as T
 use Rattle.mizzencord.proofs.Panel.Laws as T′
 use Rattle.lending.proofs.Within.{Within, within-record, store-within}
@@ -51,6 +49,9 @@ use Rattle.mizzencord.proofs.PanelReads.{counters-read, own-read}
 use Rattle.mizzencord.proofs.ChangingCall.{done-local, further-locals, part-locals, calling}
 use Rattle.mizzencord.proofs.ChangingCall.{taken, all-locals, changes-panel}
 use Rattle.mizzencord.proofs.LentParts.{passes, spelled, left, loan, had, lends-to}
+use Rattle.mizzencord.proofs.opening.open as callee
+use Rattle.mizzencord.proofs.opening.open.Symbol as callee-def
+use Rattle.mizzencord.proofs.opening.open.Met as callee-thm
 use Rattle.mizzencord.proofs.mizzencord_fresh.Key.{name as #mizzencord·mizzencord-fresh}
 use Rattle.mizzencord.proofs.mizzencord_fresh as f
 use Rattle.mizzencord.proofs.mizzencord_fresh.Statement as stated
@@ -83,7 +84,7 @@ between = opening .ty ∷ []
 
 -- what becomes of each field
 abbrev lent : List Choice
-lent = is-changed ∷ is-changed ∷ is-changed ∷ is-changed ∷ is-changed ∷ is-changed ∷ stays ∷ is-changed ∷ stays ∷ is-changed ∷ is-changed ∷ is-changed ∷ is-changed ∷ is-changed ∷ is-changed ∷ is-changed ∷ is-changed ∷ is-changed ∷ is-changed ∷ is-changed ∷ is-changed ∷ is-changed ∷ []
+lent = is-changed ∷ is-changed ∷ is-changed ∷ is-changed ∷ is-changed ∷ is-changed ∷ stays ∷ is-changed ∷ stays ∷ is-changed ∷ is-changed ∷ is-changed ∷ is-changed ∷ is-changed ∷ is-changed ∷ is-changed ∷ is-changed ∷ is-changed ∷ is-changed ∷ is-changed ∷ is-changed ∷ is-changed ∷ is-changed ∷ []
 
 abbrev operands : List ℕ
 operands = part-locals F between [] lent ++ further-locals F
@@ -145,7 +146,7 @@ mizzencord-fresh-spec 𝓤 H 𝓜 𝓖 𝓡 =
     let W = givenOf 𝓤 H 𝓜 𝓖 in
     let 𝓣 = tablesOf 𝓤 H 𝓜 (tables 𝓤 H 𝓜 𝓡 code.env) in
     let known = cited 𝓤 H (tripleOf 𝓤 H (𝓖 .A) callee.signature (callee.spec 𝓤 H (𝓖 .A) (𝓜 .mem) (𝓡 .run))) 𝓜 𝓡 code.env callee-def.name
-    callee-def.routine code.calls-replica·fresh (callee-thm.met 𝓤 H 𝓜 𝓖 𝓡) in
+    callee-def.routine code.calls-mizzencord·opening·open (callee-thm.met 𝓤 H 𝓜 𝓖 𝓡) in
     entered 𝓤 H (tripleOf 𝓤 H (𝓖 .A) f.signature (f.spec 𝓤 H (𝓖 .A) (𝓜 .mem) (𝓡 .run))) (tables 𝓤 H 𝓜 𝓡 code.env .C)
     (tables 𝓤 H 𝓜 𝓡 code.env .Λ) #mizzencord·mizzencord-fresh code.function (code.unfolded 𝓤 H 𝓜 𝓡)
     (changes-panel F between [] (number w8) lent []
@@ -155,7 +156,7 @@ mizzencord-fresh-spec 𝓤 H 𝓜 𝓖 𝓡 =
     record {
       typed = λ bs. ((tt, tt), (number w8 .typed 𝓤 H (𝓖 .A) W (a .0) (are .0), (own .typed 𝓤 H (𝓖 .A) W (a .1 .0) (are .1 .0), tt)));
       fields-read = λ bs. tt;
-      fields-lent = λ bs. (search, (search, (search, (search, (search, (search, (search, (search, (search, (search, (search, (search, (search, (search, (search, (search, (search, (search, (search, (search, tt))))))))))))))))))));
+      fields-lent = λ bs. (search, (search, (search, (search, (search, (search, (search, (search, (search, (search, (search, (search, (search, (search, (search, (search, (search, (search, (search, (search, (search, tt)))))))))))))))))))));
       runs-middle = λ bs told k.
           let E = blocks 𝓤 H (all-locals F between [] (number w8) lent []) bs in
           let after = left lent Rs h [] in
@@ -163,12 +164,12 @@ mizzencord-fresh-spec 𝓤 H 𝓜 𝓖 𝓡 =
           (spelled lent Rs h [] (vint w8 (a .0) ∷ [], (own .spelt .val (a .1 .0) ∷ [], tt))) (emp 𝓤)
           (λ r zs. let z = after zs in Fresh (a .0) (a .1 .0 .0)
           (openedBy (z .committed) (z .ordered) (z .executed) (z .stacked) (z .commits) (z .clock) (z .panels) (z .events) (z .held) (z .known)
-          (z .awaiting) (z .clocks) (z .askings) (z .contexts) (z .order) (z .stack) (z .registers) (z .saved) (z .responses) (z .settled) r))
+          (z .awaiting) (z .clocks) (z .askings) (z .contexts) (z .order) (z .stack) (z .registers) (z .saved) (z .responses) (z .settled) r) × (z .spare ≡ noSpare))
           (loan lent Rs h 𝓤 H (𝓖 .A) W b o a [])
           (had lent Rs h 𝓤 H (𝓖 .A) W b o a [] (vint w8 (a .0) ∷ [], (own .spelt .val (a .1 .0) ∷ [], tt)) told
           (number w8 .makes 𝓤 H (𝓖 .A) W (a .0) _ (are .0), (own .makes 𝓤 H (𝓖 .A) W (a .1 .0) _ (are .1 .0), tt))) (id⊢ 𝓤 _)
           (λ κ ns. known _)
-          ((tt, refl), ((tt, refl), ((tt, refl), ((tt, refl), ((tt, refl), ((tt, refl), ((tt, refl), ((tt, refl), ((tt, refl), ((tt, refl), ((tt, refl), ((tt, refl), ((tt, refl), ((tt, refl), ((tt, refl), ((tt, refl), ((tt, refl), ((tt, refl), ((tt, refl), ((tt, refl), ((tt, refl), ((tt, refl), tt)))))))))))))))))))))) tt refl
+          ((tt, refl), ((tt, refl), ((tt, refl), ((tt, refl), ((tt, refl), ((tt, refl), ((tt, refl), ((tt, refl), ((tt, refl), ((tt, refl), ((tt, refl), ((tt, refl), ((tt, refl), ((tt, refl), ((tt, refl), ((tt, refl), ((tt, refl), ((tt, refl), ((tt, refl), ((tt, refl), ((tt, refl), ((tt, refl), ((tt, refl), tt))))))))))))))))))))))) tt refl
           (λ r zs is kept.
           let us = set vs (done-local F) (some (opening .spelt .val r)) in
           let z = after zs in

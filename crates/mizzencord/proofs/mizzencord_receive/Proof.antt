@@ -66,7 +66,7 @@ abbrev numbers : List (Read T.the-row T′.mir)
 numbers = panels-read ∷ own-read ∷ []
 
 abbrev lent : List Choice
-lent = is-changed ∷ is-changed ∷ is-changed ∷ stays ∷ is-changed ∷ stays ∷ stays ∷ stays ∷ stays ∷ stays ∷ is-changed ∷ is-changed ∷ is-changed ∷ is-changed ∷ is-changed ∷ is-changed ∷ is-changed ∷ is-read-first ∷ stays ∷ stays ∷ is-read ∷ is-changed ∷ []
+lent = is-changed ∷ is-changed ∷ is-changed ∷ stays ∷ is-changed ∷ stays ∷ stays ∷ stays ∷ stays ∷ stays ∷ stays ∷ is-changed ∷ is-changed ∷ is-changed ∷ is-changed ∷ is-changed ∷ is-changed ∷ is-changed ∷ is-read-first ∷ stays ∷ stays ∷ is-read ∷ is-changed ∷ []
 
 -- what the callee is passed behind the bytes
 abbrev ps : List Pass
@@ -108,5 +108,5 @@ mizzencord-receive-spec 𝓤 H 𝓜 𝓖 𝓡 =
           (number w64 .makes 𝓤 H (𝓖 .A) W (a .1 .0) _ (are .1 .0), had lent [] h 𝓤 H (𝓖 .A) W b o tt numbers tt told tt)
           (factI 𝓤 _ _ (record { panel = memory h; invariant = ok })) (λ κ ns. known _)
           ((tt, refl), ((tt, refl), ((tt, refl), ((tt, refl), ((tt, refl), ((tt, refl), ((tt, refl), ((tt, refl), ((tt, refl), ((tt, refl), ((tt, refl), ((tt, refl), ((tt, refl), ((tt, refl), ((tt, refl), ((tt, refl), ((tt, refl), ((tt, refl), tt)))))))))))))))))) tt refl
-          (λ r zs is kept. k r (after (zs .1)) vs is (factI 𝓤 _ _ (kept .kept (memory h) ok)) tt);
+          (λ r zs is kept. k r (after (zs .1)) vs is (factI 𝓤 _ _ (kept .kept (memory h) ok, refl)) tt);
     }))

@@ -61,7 +61,7 @@ abbrev numbers : List (Read T.the-row T′.mir)
 numbers = committed-read ∷ ordered-read ∷ []
 
 abbrev lent : List Choice
-lent = stays ∷ stays ∷ is-changed ∷ is-changed ∷ stays ∷ stays ∷ stays ∷ stays ∷ stays ∷ stays ∷ stays ∷ stays ∷ is-changed ∷ stays ∷ is-read-first ∷ stays ∷ is-read ∷ is-changed ∷ is-changed ∷ is-changed ∷ is-changed ∷ []
+lent = stays ∷ stays ∷ is-changed ∷ is-changed ∷ stays ∷ stays ∷ stays ∷ stays ∷ stays ∷ stays ∷ stays ∷ stays ∷ stays ∷ is-changed ∷ stays ∷ is-read-first ∷ stays ∷ is-read ∷ is-changed ∷ is-changed ∷ is-changed ∷ is-changed ∷ []
 
 abbrev counted-local : ℕ
 counted-local = behind-parts alone between numbers lent
@@ -130,5 +130,5 @@ mizzencord-run-due-spec 𝓤 H 𝓜 𝓖 𝓡 =
           (look-in ! 2 (sub ! 1 refl (the ! E (pointed b o (suc c) ts) (done-local alone) tt refl)))) (tt, (tt, tt)) (
           assigns ! (of-opd ! (load ! (from ! (stop !)) (look-in ! 2 (the ! E ws (done-local alone) tt refl))))
           (from ! (stop !)) (fill-local ! 2 E ws result-local refl tt (due-steps .typed 𝓤 H (𝓖 .A) W r is)) $
-          k r (withCounters z (executionsCounted (undosCounted (h .counters) (r .undos)) (r .executions))) ws is (factI 𝓤 _ _ all) tt)));
+          k r (withCounters z (executionsCounted (undosCounted (h .counters) (r .undos)) (r .executions))) ws is (factI 𝓤 _ _ (all, refl)) tt)));
     }))

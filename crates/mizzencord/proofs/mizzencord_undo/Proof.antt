@@ -57,7 +57,7 @@ abbrev numbers : List (Read T.the-row T′.mir)
 numbers = executed-read ∷ []
 
 abbrev lent : List Choice
-lent = stays ∷ stays ∷ stays ∷ is-changed ∷ stays ∷ stays ∷ stays ∷ stays ∷ stays ∷ stays ∷ stays ∷ stays ∷ stays ∷ stays ∷ is-read-first ∷ stays ∷ stays ∷ is-read ∷ is-changed ∷ is-read ∷ []
+lent = stays ∷ stays ∷ stays ∷ is-changed ∷ stays ∷ stays ∷ stays ∷ stays ∷ stays ∷ stays ∷ stays ∷ stays ∷ stays ∷ stays ∷ stays ∷ is-read-first ∷ stays ∷ stays ∷ is-read ∷ is-changed ∷ is-read ∷ []
 
 abbrev counted-local : ℕ
 counted-local = behind-parts alone between numbers lent
@@ -117,5 +117,5 @@ mizzencord-undo-spec 𝓤 H 𝓜 𝓖 𝓡 =
           (tt, (tt, tt)) (
           assigns ! (of-opd ! (load ! (from ! (fld ! refl (stop !))) (look-in ! 2 (sub ! 0 refl (the ! E ws (done-local alone) tt refl)))))
           (from ! (stop !)) (fill-local ! 2 E ws result-local refl tt (answer .typed 𝓤 H (𝓖 .A) W (r .answer) (told .0))) $
-          k (r .answer) (withCounters (after zs) (undosCounted (h .counters) (r .steps))) ws (told .0) (factI 𝓤 _ _ (kept .kept (memory h) ok)) tt));
+          k (r .answer) (withCounters (after zs) (undosCounted (h .counters) (r .steps))) ws (told .0) (factI 𝓤 _ _ (kept .kept (memory h) ok, refl)) tt));
     }))

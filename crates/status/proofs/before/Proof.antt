@@ -1,7 +1,7 @@
 -- `before` meets its contract. The invariant: the place, with what stands before the slot from there on, is the whole's.
 use Prim.Native.Nat.{_+_, _-_, _≤_}
 use native.Mathlib.Omega.{arith}
-use mathlib.Core.Path.{_≡_, refl, ap}
+use mathlib.Core.Path.{_≡_, ap}
 use mathlib.Core.Bool.{not}
 use lib.Dec.{eqb}
 use lib.Seq.{slice}

@@ -36,8 +36,8 @@ else c = c .before .before .before
 inside : (c : tie.After-member2) → c .before .before2 .result < tested (else c) .args .ordered
 inside c =
     let a = tested (else c) in
-    found-inside (lent a) (a .pre .invariant) (a .args .n) (good (else c .before .before)) (here (else c)) (c .before .before .slot-of .ensures)
-    (c .before .before2 .ensures) (c .member2 .ensures)
+    found-inside (lent a) (a .pre .invariant) (a .args .n) (good (else c .before .before)) (here (else c))
+    (c .before .before .slot-of .ensures) (c .before .before2 .ensures) (c .member2 .ensures)
 
 -- ---- what the function needs
 
@@ -62,7 +62,9 @@ returns-2 : tie.Need-returns-2
 returns-2 c =
     let gone = c .before .before in
     rw (c .refusing2 .ensures)
-    (record { shown = λ p inv. status-not-here _ inv _ (good (gone .before)) (sym (gone .member .ensures) ∙ not-true _ (c .before .if2 .taken)) })
+    (record {
+      shown = λ p inv. status-not-here _ inv _ (good (gone .before)) (sym (gone .member .ensures) ∙ not-true _ (c .before .if2 .taken));
+    })
 
 slot-of-requires : tie.Need-slot-of-requires
 slot-of-requires c κs = search needs
@@ -85,8 +87,8 @@ returns-3 c =
     let held = else m in
     record {
       shown = λ p inv.
-          status-unexecuted _ inv _ (good (held .before .before)) (here held) (m .before .before .slot-of .ensures) (m .before .before2 .ensures)
-          (m .member2 .ensures) (c .if3 .taken);
+          status-unexecuted _ inv _ (good (held .before .before)) (here held) (m .before .before .slot-of .ensures)
+          (m .before .before2 .ensures) (m .member2 .ensures) (c .if3 .taken);
     }
 
 mul-response : tie.Need-mul-response
@@ -101,8 +103,8 @@ returns-4 c =
     let held = else m in
     record {
       shown = λ p inv.
-          status-executed _ inv _ (good (held .before .before)) (here held) (m .before .before .slot-of .ensures) (m .before .before2 .ensures)
-          (m .member2 .ensures) (c .before .if3 .left);
+          status-executed _ inv _ (good (held .before .before)) (here held) (m .before .before .slot-of .ensures)
+          (m .before .before2 .ensures) (m .member2 .ensures) (c .before .if3 .left);
     }
 
 pub request-status-spec : {M : Type 1} → statement M

@@ -59,7 +59,10 @@ mizzencord-request-status-spec 𝓤 H 𝓜 𝓖 𝓡 =
     (λ κs a z. id⊢ 𝓤 _) (λ κ q b o γ h a z ok are. record {
       passes = value (panels-read .value .type) ∷ value (committed-read .value .type) ∷ value (ordered-read .value .type)
           ∷ value (executed-read .value .type) ∷ chosen panelFields (only-read lent) (asked .type ∷ []);
-      here = (h .panels, (h .committed, (h .ordered, (h .executed, chosen-here panelFields (only-read lent) (asked .type ∷ []) (parts h) a))));
+      here = (
+        h .panels,
+        (h .committed, (h .ordered, (h .executed, chosen-here panelFields (only-read lent) (asked .type ∷ []) (parts h) a))),
+      );
       machine = (
         panels-read .value .spelt .val (h .panels) ∷ [],
         (
