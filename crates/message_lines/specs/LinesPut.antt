@@ -1,11 +1,14 @@
--- What putting the line of a message promises, and what putting those of all that is found does.
+-- What putting the line of a message, calling due steps until the panel is idle, and putting the lines of all that is found promise.
 use Prim.Native.Nat.{ℕ, _+_, _*_, _≤_}
 use mathlib.Core.Path.{_≡_}
 use mathlib.Core.List.{List}
 use Rattle.text.specs.Placed.{Placed}
 use Rattle.report.specs.Sizes.{mostMessageBytes}
+use Rattle.creek.specs.History.{idled}
 use Rattle.replica.specs.State.{State}
 use Rattle.replica.specs.internal.Model.{model, Inv}
+use Rattle.replica.specs.internal.Parts.{withCounters}
+use Rattle.steps.specs.Lent.{ExecuteLent, executing}
 use Rattle.wire.specs.Message.{BusMessage}
 use Rattle.wire.specs.Reader.{message, readAt}
 use Rattle.runs.specs.Found.{foundFrom}
@@ -15,6 +18,20 @@ use Rattle.printed.specs.Printout.{afterAll, lineOfMessage, messageLines, shopB
 pub record LinePut (s : List ℕ) (from place refusal undone : ℕ) (out : List ℕ) (at : ℕ) (out′ : List ℕ) (behind : ℕ) : Type 0 where
   pub written : (m : BusMessage) (n : ℕ) → readAt s from ≡ message m n → Placed out at (lineOfMessage place m refusal undone) out′ behind
   pub few : behind ≤ at + mostMessageBytes
+
+-- a panel with what due steps are lent, and those counters
+abbrev pub idling : ExecuteLent → (undos executions : ℕ) → State → State
+idling l undos executions p = executing l (withCounters (record { undos = undos; executions = executions }) p)
+
+-- every due step was done on p, which is q then, and so many undos were counted
+pub record Idle (p q : State) (undone : ℕ) : Type 0 where
+  pub state : model q ≡ idled (model p)
+  pub counted : q .counters .undos ≡ p .counters .undos + undone
+  pub invariant : Inv q
+
+-- the same of every panel with the parts that are lent, as they were before and are after
+pub record IdleKept (before later : State → State) (undone : ℕ) : Type 0 where
+  pub kept : (p : State) → Inv (before p) → Idle (before p) (later p) undone
 
 -- all that is found in the input was received by p, which is q then, and its lines were put
 pub record AllPut (p : State) (s out : List ℕ) (at : ℕ) (q : State) (out′ : List ℕ) (behind : ℕ) : Type 0 where
