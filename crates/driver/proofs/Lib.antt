@@ -1,4 +1,3 @@
 -- The laws behind a run.
 pub mod Running
 pub mod RunLaws
-pub mod TakenLaws

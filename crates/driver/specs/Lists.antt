@@ -1,7 +1,7 @@
 -- What a list of calls leads to: its answers, how many were run, and a refusal.
 use Prim.Native.Nat.{ℕ}
 use mathlib.Core.Path.{_≡_}
-use mathlib.Core.Bool.{cond}
+use mathlib.Core.Bool.{true, cond}
 use mathlib.Core.List.{List}
 use lib.ListN.{length}
 use lib.Seq.{sets}
@@ -18,3 +18,5 @@ pub record Answered (s out out′ : List ℕ) (r : ListResult) : Type 0 where
   pub ran : r .ran ≡ length (entriesRun s out)
   -- the answers stand at the front, and every other byte is as it was
   pub answers : out′ ≡ sets out 0 (answersBytes (freshOf s) (entriesRun s out))
+  -- without room no byte is changed
+  pub same-bytes : tight s out ≡ true → out′ ≡ out

@@ -1,22 +1,17 @@
 // Runs an encoded list of calls from fresh: bytes in, answers out in lent bytes. The encoding is in `docs/CALLS.md`.
 //
-// The panel's numbers and arrays are locals of `run_list`, lent to all that is called from there. `entry` reads and carries out one call;
-// `Lists` of `specs/` says what a list of calls leads to, `Running` what it makes of the panel.
-mod entry;
-
-use encoding::answers;
+// The panel's numbers and arrays are locals of `run_list`, lent to all that is called from there. The crate `entries` carries out one call
+// and puts its answer; `Lists` of `specs/` says what a list of calls leads to.
 use encoding::calls;
 use numbers::PanelNo;
 use request::refusal;
 ghost use mathlib.Core.Path.{_≡_};
-ghost use Rattle.numbers.specs.Numbers.{panelNo};
 ghost use Rattle.text.specs.Placed.{Room};
 ghost use Rattle.replica.specs.internal.Model.{Inv, model};
 ghost use Rattle.replica.specs.internal.Whole.{wholeNow, wholeEntry, wholeExit};
 ghost use Rattle.encoding.specs.Encoding.{callCount, entriesOf, answersBytes};
 ghost use Rattle.encoding.specs.internal.Running.{RanAll};
 ghost use Rattle.driver.specs.Lists.{Answered};
-ghost use Rattle.driver.specs.Running.{RanList};
 
 // What a list of calls led to: how many were run, and refusal 20 without room for the answers, else fresh's.
 #[repr(C)]
@@ -25,12 +20,20 @@ pub struct ListResult {
     pub refusal: u8,
 }
 
-// Runs a list of calls from fresh and puts their answers at the front of `out`; without room for all answers none is run.
+// Runs a list of calls from fresh and puts their answers at the front of `out`; without room for all answers none is run, and no byte is
+// changed.
 pub fn run_list(calls: &[u8], out: &mut [u8]) -> ListResult
     ensures { λ r. ⌜ Answered (now (calls .entry)) (now (out .entry)) (now (out .exit)) r ⌝ }
 {
-    let mut shop = 0u8;
-    let mut own = 0u8;
+    if encoding::tight(calls, out.len()) {
+        return ListResult {
+            ran: 0,
+            refusal: refusal::NO_ROOM,
+        };
+    }
+    let count = encoding::call_count(calls);
+    let shop = encoding::shop_in(calls);
+    let own = shop.own;
     let mut committed = 0usize;
     let mut ordered = 0usize;
     let mut executed = 0usize;
@@ -52,11 +55,9 @@ pub fn run_list(calls: &[u8], out: &mut [u8]) -> ListResult
     let mut saved = [0u64; 512];
     let mut responses = [0u32; 512];
     let mut settled = [0u64; 8];
-    run(
-        calls,
-        out,
-        &mut shop,
-        &mut own,
+    run_all(
+        shop.panels,
+        own,
         &mut committed,
         &mut ordered,
         &mut executed,
@@ -78,112 +79,13 @@ pub fn run_list(calls: &[u8], out: &mut [u8]) -> ListResult
         &mut saved,
         &mut responses,
         &mut settled,
-    )
-}
-
-// The same on a panel whose numbers and arrays are lent: without room nothing lent is changed, else they are the panel's memory after the
-// calls. The number of panels is lent as `shop`, the own panel's as `own`.
-pub fn run(
-    s: &[u8],
-    out: &mut [u8],
-    shop: &mut u8,
-    own: &mut u8,
-    committed: &mut usize,
-    ordered: &mut usize,
-    executed: &mut usize,
-    stacked: &mut usize,
-    commits: &mut u32,
-    clock: &mut u32,
-    events: &mut u8,
-    undos: &mut u32,
-    executions: &mut u32,
-    held: &mut [u64; 8],
-    known: &mut [u64; 8],
-    awaiting: &mut [u64; 8],
-    clocks: &mut [u32; 512],
-    askings: &mut [u64; 512],
-    contexts: &mut [u64; 4096],
-    order: &mut [u16; 512],
-    stack: &mut [u16; 512],
-    registers: &mut [u32; 64],
-    saved: &mut [u64; 512],
-    responses: &mut [u32; 512],
-    settled: &mut [u64; 8],
-) -> ListResult
-    ensures { λ r. ⌜ RanList (now (s .entry)) (now (out .entry)) (now (out .exit)) r
-        (wholeEntry (now (shop .entry)) (panelNo (now (own .entry))) committed ordered executed stacked commits clock events undos
-        executions held known awaiting clocks askings contexts order stack registers saved responses settled)
-        (wholeExit (now (shop .exit)) (panelNo (now (own .exit))) committed ordered executed stacked commits clock events undos
-        executions held known awaiting clocks askings contexts order stack registers saved responses settled) ⌝ }
-{
-    let count = encoding::call_count(s);
-    if out.len() / answers::ANSWER_SIZE < count {
-        return ListResult {
-            ran: 0,
-            refusal: refusal::NO_ROOM,
-        };
-    }
-    let panels = encoding::byte_at(s, calls::PANELS_AT);
-    let number = encoding::byte_at(s, calls::OWN_AT);
-    let opened = replica::fresh(
-        committed,
-        ordered,
-        executed,
-        stacked,
-        commits,
-        clock,
-        shop,
-        events,
-        held,
-        known,
-        awaiting,
-        clocks,
-        askings,
-        contexts,
-        order,
-        stack,
-        registers,
-        saved,
-        responses,
-        settled,
-        panels,
-        PanelNo(number),
-    );
-    let counters = opened.counters;
-    *own = opened.own.0;
-    *undos = counters.undos;
-    *executions = counters.executions;
-    run_all(
-        *shop,
-        opened.own,
-        committed,
-        ordered,
-        executed,
-        stacked,
-        commits,
-        clock,
-        events,
-        undos,
-        executions,
-        held,
-        known,
-        awaiting,
-        clocks,
-        askings,
-        contexts,
-        order,
-        stack,
-        registers,
-        saved,
-        responses,
-        settled,
-        s,
+        calls,
         count,
         out,
     );
     ListResult {
         ran: count,
-        refusal: opened.refusal,
+        refusal: shop.refusal,
     }
 }
 
@@ -232,18 +134,39 @@ fn run_all(
     let mut behind = 0;
     let mut i = 0;
     while i < count {
-        let answer = entry::call(
+        let tag = s[at];
+        if encoding::is_step(tag) {
+            behind = entries::step(
+                tag,
+                *committed,
+                *ordered,
+                executed,
+                stacked,
+                undos,
+                executions,
+                awaiting,
+                askings,
+                order,
+                stack,
+                registers,
+                saved,
+                responses,
+                out,
+                behind,
+            );
+            at += calls::CALL_SIZE;
+            i += 1;
+            continue;
+        }
+        behind = entries::bring(
             panels,
             own,
             committed,
             ordered,
             executed,
-            stacked,
             commits,
             clock,
             events,
-            undos,
-            executions,
             held,
             known,
             awaiting,
@@ -252,14 +175,13 @@ fn run_all(
             contexts,
             order,
             stack,
-            registers,
-            saved,
             responses,
             settled,
             s,
             at,
+            out,
+            behind,
         );
-        behind = encoding::put_answer(out, behind, answer);
         at += calls::CALL_SIZE;
         i += 1;
     }

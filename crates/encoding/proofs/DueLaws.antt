@@ -1,21 +1,16 @@
--- All due steps as an entry: their count is small, and what running them does; then an entry by its tag.
-use Prim.Native.Nat.{ℕ, _+_, _*_, _≤_}
+-- All due steps as an entry: their count is small, and what running them does.
+use Prim.Native.Nat.{_+_, _*_, _≤_}
 use mathlib.Core.Path.{_≡_}
-use mathlib.Core.List.{List}
 use native.Mathlib.Omega.{arith}
-use lib.ListN.{getD}
-use borrow.Author.Tests.{eq-eqb, ne-eqb}
 use Rattle.numbers.specs.Numbers.{noNumber}
 use Rattle.creek.specs.Replies.{noMark, reply}
 use Rattle.creek.specs.internal.Sound.{mostRequests}
 use Rattle.creek.specs.Showing.{owedShown}
-use Rattle.replica.specs.State.{State, Called}
-use Rattle.due.specs.Due.{DueOutcome}
-use Rattle.replica.specs.Promises.{Kept}
+use Rattle.replica.specs.State.{State}
 use Rattle.replica.specs.internal.Model.{Inv, model}
-use Rattle.due.specs.Due.{RunDue}
+use Rattle.due.specs.Due.{DueOutcome, RunDue}
 use Rattle.replica.proofs.ShowingLaws.{owed-are}
-use Rattle.encoding.specs.Encoding.{allDueTag, callAt, one, allDue, entryAt, after, answerTo}
+use Rattle.encoding.specs.Encoding.{allDue, after, answerTo}
 use Rattle.encoding.specs.internal.Running.{Done}
 
 -- at most two steps are owed for each request
@@ -30,18 +25,3 @@ pub done-all-due : (p : State) (r : DueOutcome) → RunDue p r
     → Done p allDue (record { answer = reply noNumber (r .undos + r .executions) noMark; state = r .state })
 unfolding after answerTo
 done-all-due p r ran = record { answer = rw (ran .undos, ran .executions); state = ran .state; invariant = ran .invariant }
-
--- ---- an entry, by its tag
-
-module _ (p : State) (s : List ℕ) (at : ℕ) (r : Called) where
-  pub done-due : getD s at 0 ≡ allDueTag → Done p allDue r → Done p (entryAt s at) r
-  unfolding entryAt
-  done-due e d = rw (eq-eqb (getD s at 0) allDueTag e) d
-
-  done-one : Kept p (callAt s at) r → Done p (one (callAt s at)) r
-  unfolding after answerTo
-  done-one k = record { answer = k .answer; state = k .state; invariant = k .invariant }
-
-  pub done-call : (getD s at 0 ≡ allDueTag → ⊥) → Kept p (callAt s at) r → Done p (entryAt s at) r
-  unfolding entryAt
-  done-call other k = rw (ne-eqb (getD s at 0) allDueTag other) (done-one k)

@@ -1,10 +1,14 @@
 // Where the calls stand in a run of bytes, and what of one is read.
 use creek::Invocation;
-use request::Request;
+use numbers::PanelNo;
+use replica::Shop;
 use wire::layout::LONGEST_MESSAGE;
 ghost use mathlib.Core.Path.{_≡_};
 ghost use lib.ListN.{getD};
-ghost use Rattle.encoding.specs.Encoding.{callCount, invocationOf};
+ghost use Rattle.replica.specs.Promises.{Fresh};
+ghost use Rattle.replica.specs.internal.Parts.{openedWithZeros};
+ghost use Rattle.encoding.specs.Encoding.{panelsOf, ownOf, callCount, messageAt, invocationOf};
+ghost use Rattle.encoding.specs.internal.Running.{isStep};
 
 pub const PANELS_AT: usize = 0;
 
@@ -44,11 +48,30 @@ pub fn call_count(s: &[u8]) -> usize
     (s.len() - CALLS_AT) / CALL_SIZE
 }
 
-// The invocation with what x asks for and its clock reading.
-pub fn invocation_of(x: Request) -> Invocation
-    ensures { λ i. ⌜ i ≡ invocationOf x ⌝ }
+// The shop that `s` asks for, as it is opened.
+pub fn shop_in(s: &[u8]) -> Shop
+    ensures { λ r. ⌜ Fresh (panelsOf (now (s .entry))) (ownOf (now (s .entry))) (openedWithZeros r) ⌝ }
 {
-    let asked = x.asked;
-    let clock = x.clock;
+    let panels = byte_at(s, PANELS_AT);
+    let own = byte_at(s, OWN_AT);
+    replica::shop_of(panels, PanelNo(own))
+}
+
+// The tag is that of a step, or of all due steps.
+pub fn is_step(tag: u8) -> bool
+    ensures { λ r. ⌜ r ≡ isStep tag ⌝ }
+{
+    (tag == UNDO) | (tag == EXECUTE) | (tag == ALL_DUE)
+}
+
+// What is asked for by the request whose message stands at a place, with its clock reading.
+pub fn invocation_at(s: &[u8], at: usize) -> Invocation
+    ensures { λ i. ⌜ i ≡ invocationOf (messageAt (now (s .entry)) at .request) ⌝ }
+{
+    let reading = wire::read(s, at);
+    let message = reading.message;
+    let request = message.request;
+    let asked = request.asked;
+    let clock = request.clock;
     Invocation { asked, clock }
 }

@@ -6,6 +6,11 @@ pub mod answers;
 pub mod calls;
 
 pub use answers::put_answer;
-pub use calls::byte_at;
+pub use answers::put_receipt;
+pub use answers::put_reply;
+pub use answers::put_steps;
+pub use answers::tight;
 pub use calls::call_count;
-pub use calls::invocation_of;
+pub use calls::invocation_at;
+pub use calls::is_step;
+pub use calls::shop_in;

@@ -17,9 +17,6 @@ use Rattle.creek.specs.History.{idled}
 use Rattle.creek.specs.Showing.{undosShown}
 use Rattle.replica.specs.State.{State}
 use Rattle.replica.specs.internal.Model.{model, Inv}
-use Rattle.due.specs.declared.DueSteps.{DueSteps}
-use Rattle.due.specs.Due.{RunDue}
-use Rattle.due.specs.internal.Parts.{ranTo}
 use Rattle.wire.specs.Layout.{leastMessage}
 use Rattle.wire.specs.Message.{BusMessage}
 use Rattle.wire.specs.Reader.{Outcome, message, end, refused, answered, readAt}
@@ -31,7 +28,7 @@ use Rattle.runs.specs.Found.{foundFrom}
 use Rattle.runs.proofs.FoundLaws.{bytesOf, one-found, none-found}
 use Rattle.printed.specs.Printout.{after, afterAll, refusalIn, undoneIn, lineOfMessage, lineFor, messageLines}
 use Rattle.printed.specs.Printout.{shopBytes, mostMessages, mostInput}
-use Rattle.message_lines.specs.LinesPut.{LinePut, AllPut}
+use Rattle.message_lines.specs.LinesPut.{LinePut, Idle, AllPut}
 
 -- ---- what a receipt tells
 
@@ -150,10 +147,8 @@ module _ {p₀ : State} {s out : List ℕ} {from : ℕ} {p : State} {out₁ : Li
             let inside = taken-inside s at (there .0) (r .taken) (there .1) in
             (omega arith, least, inside)
 
-        module _ {d : DueSteps} {q₁ : State} (ran : RunDue q (ranTo d q₁))
-            (counted : q₁ .counters .undos ≡ p .counters .undos + d .undos) where
-          pub put-step : {out₂ : List ℕ} {behind₂ : ℕ}
-              → LinePut place (r .kind) (r .number) (r .reply .refusal) (d .undos) out₁ behind out₂ behind₂
+        module _ {q₁ : State} {n₁ : ℕ} (ran : Idle q q₁ n₁) (same : q .counters .undos ≡ p .counters .undos) where
+          pub put-step : {out₂ : List ℕ} {behind₂ : ℕ} → LinePut place (r .kind) (r .number) (r .reply .refusal) n₁ out₁ behind out₂ behind₂
               → Putting p₀ s out from q₁ out₂ (at + r .taken) behind₂ (place + 1)
           unfolding afterAll after refusalIn answerTo received
           put-step {out₂} {behind₂} w =
@@ -168,8 +163,8 @@ module _ {p₀ : State} {s out : List ℕ} {from : ℕ} {p : State} {out₁ : Li
               ran .state ∙ ap idled (got .state ∙ ap (received (model p)) is) in
               let refusal : r .reply .refusal ≡ refusalIn (model p) (message m n) =
               ap (λ (a : Answer). a .refusal) (got .answer ∙ ap (answerTo (model p)) is) in
-              let undone : d .undos ≡ undoneIn (model p) (message m n) =
-              omega (arith, counted, undos-are p, undos-are q₁, ap undosShown stands) in
+              let undone : n₁ ≡ undoneIn (model p) (message m n) =
+              omega (arith, ran .counted, same, undos-are p, undos-are q₁, ap undosShown stands) in
               let lines =
               ap (messageLines place (model p)) one ∙ lines-next place (model p) (model q₁) m n _ _ rest stands refusal undone
               ∙ ap (λ (l : List ℕ). l ++ messageLines (place + 1) (model q₁) rest) (line-told m n got is place _ _) in

@@ -7,9 +7,11 @@ ghost use Prim.Native.Nat.{_+_, _*_, _≤_};
 ghost use lib.ListN.{length};
 ghost use Rattle.report.specs.Sizes.{mostMessageBytes};
 ghost use Rattle.replica.specs.internal.Model.{Inv};
+ghost use Rattle.replica.specs.internal.Parts.{Asks};
 ghost use Rattle.replica.specs.internal.Whole.{wholeNow, wholeEntry, wholeExit};
+ghost use Rattle.steps.specs.Lent.{executeNow, executeEntry, executeExit};
 ghost use Rattle.printed.specs.Printout.{shopBytes, mostMessages, mostInput};
-ghost use Rattle.message_lines.specs.LinesPut.{LinePut, AllPut};
+ghost use Rattle.message_lines.specs.LinesPut.{LinePut, idling, IdleKept, AllPut};
 
 // P and the own panel, one byte each, in front of the messages.
 pub const SHOP_BYTES: usize = 2;
@@ -40,6 +42,49 @@ fn put_line(
         refusal as u64,
         undone as u64,
     )
+}
+
+// Every due step until the panel is idle, counted; returns how many undos they were.
+fn idle(
+    committed: usize,
+    ordered: usize,
+    executed: &mut usize,
+    stacked: &mut usize,
+    undos: &mut u32,
+    executions: &mut u32,
+    awaiting: &mut [u64; 8],
+    askings: &mut [u64; 512],
+    order: &mut [u16; 512],
+    stack: &mut [u16; 512],
+    registers: &mut [u32; 64],
+    saved: &mut [u64; 512],
+    responses: &mut [u32; 512],
+) -> u32
+    requires { ⌜ Asks (idling (executeNow committed ordered executed stacked awaiting askings order stack registers saved responses)
+        (now undos) (now executions)) ⌝ }
+    ensures { λ n. ⌜ IdleKept
+        (idling (executeEntry committed ordered executed stacked awaiting askings order stack registers saved responses)
+        (now (undos .entry)) (now (executions .entry)))
+        (idling (executeExit committed ordered executed stacked awaiting askings order stack registers saved responses)
+        (now (undos .exit)) (now (executions .exit)))
+        n ⌝ }
+{
+    let steps = due::run_due(
+        committed,
+        ordered,
+        executed,
+        stacked,
+        awaiting,
+        askings,
+        order,
+        stack,
+        registers,
+        saved,
+        responses,
+    );
+    *undos = *undos + steps.undos;
+    *executions = *executions + steps.executions;
+    steps.undos
 }
 
 // Receives what is found behind the shop's bytes, message by message, calls due steps until the panel is idle, and puts each line; what
@@ -117,11 +162,13 @@ pub fn put_messages(
         if taken == 0 {
             return report::put_unread(out, behind, place, refusal as u64);
         }
-        let steps = due::run_due(
+        let undone = idle(
             *committed,
             *ordered,
             executed,
             stacked,
+            undos,
+            executions,
             awaiting,
             askings,
             order,
@@ -130,11 +177,6 @@ pub fn put_messages(
             saved,
             responses,
         );
-        let undone = steps.undos;
-        let undos_done = *undos + undone;
-        let executions_done = *executions + steps.executions;
-        *undos = undos_done;
-        *executions = executions_done;
         behind = put_line(out, behind, place, kind, number, refusal, undone);
         at += taken;
         place += 1;

@@ -42,11 +42,18 @@ ghost use Rattle.sets.specs.Sets.{setOf};
 ghost use Rattle.creek.specs.Calls.{badShop};
 ghost use Rattle.creek.specs.Replies.{refusedWith, reply as replyOf, replyAnswer, replyIn, stepsDone, awaitingAfter};
 ghost use Rattle.replica.specs.Promises.{Fresh};
-ghost use Rattle.replica.specs.internal.Parts.{openedBy};
+ghost use Rattle.replica.specs.internal.Parts.{openedBy, openedWithZeros};
 
 // What fresh returns beside the parts that it is lent.
 pub struct Opening {
     pub counters: Counters,
+    pub own: PanelNo,
+    pub refusal: u8,
+}
+
+// A shop as it is opened, and refusal 1 where another was asked for.
+pub struct Shop {
+    pub panels: u8,
     pub own: PanelNo,
     pub refusal: u8,
 }
@@ -116,21 +123,34 @@ pub fn fresh(
     *saved = [0u64; 512];
     *responses = [0u32; 512];
     *settled = [0u64; 8];
+    let opened = shop_of(panels, own);
+    *shop = opened.panels;
     let counters = Counters {
         undos: 0,
         executions: 0,
     };
+    let own = opened.own;
+    Opening {
+        counters,
+        own,
+        refusal: opened.refusal,
+    }
+}
+
+// The shop that is opened for those numbers: a bad one is a one-panel shop, panel 0, and refusal 1. Its panel with a memory of zeros is
+// what fresh makes.
+pub fn shop_of(panels: u8, own: PanelNo) -> Shop
+    ensures { λ r. ⌜ Fresh panels (own .0) (openedWithZeros r) ⌝ }
+{
     if bad_shop(panels, own) {
-        *shop = 1;
-        return Opening {
-            counters,
+        return Shop {
+            panels: 1,
             own: PanelNo(0),
             refusal: refusal::BAD_SHOP,
         };
     }
-    *shop = panels;
-    Opening {
-        counters,
+    Shop {
+        panels,
         own,
         refusal: refusal::ACCEPTED,
     }

@@ -86,15 +86,21 @@ opened-by panels own w false e f h = refl
 pub fresh-good : (panels own w : ℕ) → w ≡ freshRefusal panels own → w ≡ refusedBy.accepted → badShop panels own ≡ false
 fresh-good panels own w f h = opened-by panels own w (badShop panels own) refl f h
 
--- the three parts of a good shop's printout, one behind the other
-pub printed : {s out out₁ out₂ out₃ : List ℕ} {at₁ at₂ at₃ : ℕ} {p q : State} → shopBytes ≤ length s
-    → badShop (getD s 0 0) (getD s 1 0) ≡ false → model p ≡ fresh (getD s 0 0) (getD s 1 0)
-    → Placed out 0 (boardLine (getD s 0 0) (getD s 1 0)) out₁ at₁ → AllPut p s out₁ at₁ q out₂ at₂
-    → ClosingPut (q .committed) (q .ordered) (q .counters .undos) (q .counters .executions) (q .registers) out₂ at₂ out₃ at₃
-    → Placed out 0 (printout s) out₃ at₃
-printed {s} {out} {out₁} {out₂} {out₃} {at₁} {at₂} {at₃} {p} {q} h good opened first put last =
+-- the lines of a shift, from those of its messages and the closing lines
+pub shift-put : {s out out₁ out₂ : List ℕ} {at at₁ at₂ : ℕ} {p q : State} → AllPut p s out at q out₁ at₁
+    → ClosingPut (q .committed) (q .ordered) (q .counters .undos) (q .counters .executions) (q .registers) out₁ at₁ out₂ at₂
+    → Placed out at (messageLines 1 (model p) (foundFrom s shopBytes) ++ closing (afterAll (model p) (foundFrom s shopBytes))) out₂ at₂
+shift-put {out₁ = out₁} {out₂ = out₂} {at₁ = at₁} {at₂ = at₂} {q = q} put last =
+    let closes = sym (closing-is q (put .invariant)) ∙ ap closing (put .state) in
+    then (put .lines) (subst (λ (text : List ℕ). Placed out₁ at₁ text out₂ at₂) closes (last .written))
+
+-- a good shop's printout: the board's line, and the lines of the shift that fresh begins
+pub printed : (s : List ℕ) {out out₁ out₂ : List ℕ} {at₁ at₂ : ℕ} {r : Replica} → shopBytes ≤ length s
+    → badShop (getD s 0 0) (getD s 1 0) ≡ false → r ≡ fresh (getD s 0 0) (getD s 1 0)
+    → Placed out 0 (boardLine (getD s 0 0) (getD s 1 0)) out₁ at₁
+    → Placed out₁ at₁ (messageLines 1 r (foundFrom s shopBytes) ++ closing (afterAll r (foundFrom s shopBytes))) out₂ at₂
+    → Placed out 0 (printout s) out₂ at₂
+printed s {out₁ = out₁} {out₂ = out₂} {at₁ = at₁} {at₂ = at₂} h good opened first shift =
     let found = foundFrom s shopBytes in
-    let lines = subst (λ (x : Replica). Placed out₁ at₁ (messageLines 1 x found) out₂ at₂) opened (put .lines) in
-    let closes = sym (closing-is q (put .invariant)) ∙ ap closing (put .state ∙ ap (λ (x : Replica). afterAll x found) opened) in
-    let closed = subst (λ (text : List ℕ). Placed out₂ at₂ text out₃ at₃) closes (last .written) in
-    rw (printout-good s h good) (then first (then lines closed))
+    let lines = subst (λ (x : Replica). Placed out₁ at₁ (messageLines 1 x found ++ closing (afterAll x found)) out₂ at₂) opened shift in
+    rw (printout-good s h good) (then first lines)

@@ -1,6 +1,6 @@
 // The printout of document 01, which is one definition of the input's bytes, `printout` of `printed`, put into lent bytes by `print`.
 //
-// The panel's memory is the locals of `put_printout`, which are lent to `fresh` and to `message_lines`.
+// The panel's memory is the locals of `put_shift`, which are lent to `message_lines`.
 use message_lines::SHOP_BYTES;
 use numbers::PanelNo;
 use report::sizes::MOST_BOARD_BYTES;
@@ -12,8 +12,10 @@ use wire::layout::LEAST_MESSAGE;
 ghost use Prim.Native.Nat.{_+_, _≤_};
 ghost use lib.ListN.{length};
 ghost use Rattle.report.specs.Sizes.{mostTotalsBytes, mostRegistersBytes};
-ghost use Rattle.printed.specs.Printout.{mostInput, mostPrinted, Printed};
-ghost use Rattle.sheet.specs.Putting.{ClosingAsks, ClosingPut, PrintoutPut};
+ghost use Rattle.replica.specs.State.{firstMemory};
+ghost use Rattle.replica.specs.internal.Model.{Inv};
+ghost use Rattle.printed.specs.Printout.{shopBytes, mostInput, mostPrinted, Printed};
+ghost use Rattle.sheet.specs.Putting.{ClosingAsks, ClosingPut, mostShiftBytes, ShiftPut, PrintoutPut};
 
 // At most so many bytes of the input are read.
 pub const MOST_INPUT: usize = 65536;
@@ -53,25 +55,23 @@ fn put_closing(
     report::put_registers(out, registers_at, registers)
 }
 
-// Puts the printout of at most MOST_INPUT bytes.
-fn put_printout(out: &mut [u8], input: &[u8]) -> usize
+// Puts the lines of a shift that begins with a memory of zeros: those of the messages found behind the shop's bytes, and the closing lines.
+fn put_shift(out: &mut [u8], at: usize, input: &[u8], panels: u8, own: PanelNo) -> usize
+    requires { ⌜ Inv (firstMemory panels own) ⌝ }
+    requires { ⌜ shopBytes ≤ length (now input) ⌝ }
     requires { ⌜ length (now input) ≤ mostInput ⌝ }
-    requires { ⌜ mostPrinted ≤ length (now out) ⌝ }
-    ensures { λ r. ⌜ PrintoutPut (now (input .entry)) (now (out .entry)) (now (out .exit)) r ⌝ }
+    requires { ⌜ at + mostShiftBytes ≤ length (now out) ⌝ }
+    ensures { λ r. ⌜ ShiftPut panels own (now (input .entry)) (now (out .entry)) at (now (out .exit)) r ⌝ }
 {
-    if input.len() < SHOP_BYTES {
-        return report::put_refused(out, 0, refusal::CUT_SHORT as u64);
-    }
-    let panels = input[0];
-    let own = input[1];
-    let mut shop: u8 = 0;
-    let mut committed: usize = 0;
-    let mut ordered: usize = 0;
-    let mut executed: usize = 0;
-    let mut stacked: usize = 0;
-    let mut commits: u32 = 0;
-    let mut clock: u32 = 0;
-    let mut events: u8 = 0;
+    let mut committed = 0usize;
+    let mut ordered = 0usize;
+    let mut executed = 0usize;
+    let mut stacked = 0usize;
+    let mut commits = 0u32;
+    let mut clock = 0u32;
+    let mut events = 0u8;
+    let mut undos = 0u32;
+    let mut executions = 0u32;
     let mut held = [0u64; 8];
     let mut known = [0u64; 8];
     let mut awaiting = [0u64; 8];
@@ -84,42 +84,12 @@ fn put_printout(out: &mut [u8], input: &[u8]) -> usize
     let mut saved = [0u64; 512];
     let mut responses = [0u32; 512];
     let mut settled = [0u64; 8];
-    let opened = replica::fresh(
-        &mut committed,
-        &mut ordered,
-        &mut executed,
-        &mut stacked,
-        &mut commits,
-        &mut clock,
-        &mut shop,
-        &mut events,
-        &mut held,
-        &mut known,
-        &mut awaiting,
-        &mut clocks,
-        &mut askings,
-        &mut contexts,
-        &mut order,
-        &mut stack,
-        &mut registers,
-        &mut saved,
-        &mut responses,
-        &mut settled,
-        panels,
-        PanelNo(own),
-    );
-    if opened.refusal != refusal::ACCEPTED {
-        return report::put_refused(out, 0, refusal::BAD_SHOP as u64);
-    }
-    let mut undos = opened.counters.undos;
-    let mut executions = opened.counters.executions;
-    let messages_at = report::put_board(out, 0, panels as u64, own as u64);
     let closing_at = message_lines::put_messages(
         out,
-        messages_at,
+        at,
         input,
-        shop,
-        opened.own,
+        panels,
+        own,
         &mut committed,
         &mut ordered,
         &mut executed,
@@ -151,6 +121,26 @@ fn put_printout(out: &mut [u8], input: &[u8]) -> usize
         executions,
         &registers,
     )
+}
+
+// Puts the printout of at most MOST_INPUT bytes.
+fn put_printout(out: &mut [u8], input: &[u8]) -> usize
+    requires { ⌜ length (now input) ≤ mostInput ⌝ }
+    requires { ⌜ mostPrinted ≤ length (now out) ⌝ }
+    ensures { λ r. ⌜ PrintoutPut (now (input .entry)) (now (out .entry)) (now (out .exit)) r ⌝ }
+{
+    if input.len() < SHOP_BYTES {
+        return report::put_refused(out, 0, refusal::CUT_SHORT as u64);
+    }
+    let panels = input[0];
+    let own = input[1];
+    let shop = replica::shop_of(panels, PanelNo(own));
+    if shop.refusal != refusal::ACCEPTED {
+        return report::put_refused(out, 0, refusal::BAD_SHOP as u64);
+    }
+    let at = report::put_board(out, 0, panels as u64, own as u64);
+    let own_panel = shop.own;
+    put_shift(out, at, input, shop.panels, own_panel)
 }
 
 // Puts the printout of the input, of which at most MOST_INPUT bytes are read, at the front of `out` and returns the place behind it. An

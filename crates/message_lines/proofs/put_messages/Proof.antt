@@ -1,16 +1,10 @@
 -- `put_messages` meets its contract.
-use Prim.Native.Nat.{ℕ, _+_, _-_, _≤_, _<_, _^_}
+use Prim.Native.Nat.{_+_, _-_, _≤_, _<_, _^_}
 use native.Mathlib.Omega.{arith}
 use mathlib.Core.Path.{refl, _∙_}
-use mathlib.Core.List.{List}
 use lib.ListN.{length}
 use borrow.Author.Needs.{needs}
-use Rattle.numbers.specs.declared.PanelNo.{PanelNo}
-use Rattle.numbers.specs.Numbers.{clockReading}
-use Rattle.replica.specs.State.{State}
-use Rattle.replica.specs.internal.Cores.{packed}
-use Rattle.counters.specs.Counted.{mostSteps}
-use Rattle.replica.proofs.BoundLaws.{undos-fit, executions-fit}
+use Rattle.replica.specs.internal.Whole.{whole}
 use Rattle.text.proofs.PlacedLaws.{same-size}
 use Rattle.report.specs.Sizes.{mostMessageBytes}
 use Rattle.report.proofs.SizeLaws.{unread-short}
@@ -20,36 +14,16 @@ use Rattle.message_lines.proofs.LoopLaws.{Putting, panelIn, stateAfter,
 use Rattle.message_lines.proofs.put_messages.Statement.{statement}
 use Rattle.message_lines.proofs.put_messages.Tie as tie
 
--- the memory with those numbers and arrays
-abbrev memory : ℕ → PanelNo → (committed ordered executed stacked commits clock events undos executions : ℕ)
-    (held known awaiting clocks askings contexts order stack registers saved responses settled : List ℕ) → State
-memory panels own committed ordered executed stacked commits clock events undos executions held known awaiting clocks askings contexts
-    order stack registers saved responses settled =
-    packed
-    (record {
-      panels = panels;
-      own = own;
-      events = events;
-      clock = clockReading clock;
-      committed = committed;
-      ordered = ordered;
-      executed = executed;
-      stacked = stacked;
-      commits = commits;
-    })
-    (record { undos = undos; executions = executions })
-    held known awaiting clocks askings contexts order stack registers saved responses settled
-
 abbrev Inv-loop : tie.InvT-loop
 Inv-loop out₀ from input panels own committed₀ ordered₀ executed₀ stacked₀ commits₀ clock events undos₀ executions₀ held₀ known₀
     awaiting₀ clocks₀ operations₀ contexts₀ order₀ stack₀ registers₀ saved₀ responses₀ settled₀ at₀ behind₀ place₀ out committed ordered
     executed stacked commits undos executions held known awaiting clocks askings contexts order stack registers saved responses
     settled at behind place =
     Putting
-    (memory panels own committed₀ ordered₀ executed₀ stacked₀ commits₀ clock events undos₀ executions₀ held₀ known₀ awaiting₀ clocks₀
+    (whole panels own committed₀ ordered₀ executed₀ stacked₀ commits₀ clock events undos₀ executions₀ held₀ known₀ awaiting₀ clocks₀
     operations₀ contexts₀ order₀ stack₀ registers₀ saved₀ responses₀ settled₀)
     input out₀ from
-    (memory panels own committed ordered executed stacked commits clock events undos executions held known awaiting clocks askings
+    (whole panels own committed ordered executed stacked commits clock events undos executions held known awaiting clocks askings
     contexts order stack registers saved responses settled)
     out at behind place
 
@@ -73,13 +47,13 @@ turn c = c .before .before .before .before .before .before .before .before .befo
 abbrev received : tie.After-struct-known Inv-loop μ-loop → tie.After-receive Inv-loop μ-loop
 received c = c .before .before
 
--- the message whose due steps are called
-abbrev taken : tie.After-run-due-arg9 Inv-loop μ-loop → tie.Else1 Inv-loop μ-loop
-taken c = c .before .before .before .before .before .before .before .before .before .before .before
+-- the message behind which the panel is to be idle
+abbrev taken : tie.After-idle-arg11 Inv-loop μ-loop → tie.Else1 Inv-loop μ-loop
+taken c = c .before .before .before .before .before .before .before .before .before .before .before .before .before
 
--- the due steps, from where their line is put
-abbrev ran : tie.After-slice-known3 Inv-loop μ-loop → tie.After-run-due Inv-loop μ-loop
-ran c = c .before .before .before .before .before .before .before
+-- the idle panel, from where its line was put
+abbrev idled : tie.After-slice-known3 Inv-loop μ-loop → tie.After-idle Inv-loop μ-loop
+idled c = c .before .before .before .before
 
 -- ---- the turn
 
@@ -144,58 +118,41 @@ inside c =
     let put = t .before .loop .inv in
     within put (t .loop-test .taken) (call .receive .ensures .kept (panelIn put) (put .invariant)) (c .if1 .left)
 
-run-due-requires : tie.Need-run-due-requires Inv-loop μ-loop
-run-due-requires c κs =
+idle-requires : tie.Need-idle-requires Inv-loop μ-loop
+idle-requires c κs =
     let call = received (taken c .before) in
     let put = turn (call .before) .before .loop .inv in
     let got = call .receive .ensures .kept (panelIn put) (put .invariant) in
     record { panel = stateAfter got; invariant = got .invariant }
 
--- the counters have room for the steps
-counters-fit : (c : tie.After-run-due Inv-loop μ-loop) → let l = turn (received (taken (c .before) .before) .before) .before .loop in
-    (l .undos + c .run-due .result .undos ≤ mostSteps) × (l .executions + c .run-due .result .executions ≤ mostSteps)
-counters-fit c =
-    let call = received (taken (c .before) .before) in
-    let put = turn (call .before) .before .loop .inv in
-    let got = call .receive .ensures .kept (panelIn put) (put .invariant) in
-    let invariant = c .run-due .ensures .kept (stateAfter got) (got .invariant) .invariant in
-    (undos-fit _ invariant, executions-fit _ invariant)
-
-add-undos-done : tie.Need-add-undos-done Inv-loop μ-loop
-add-undos-done c = omega (arith, counters-fit (c .before) .0)
-
-add-executions-done : tie.Need-add-executions-done Inv-loop μ-loop
-add-executions-done c = omega (arith, counters-fit (c .before .before .before) .1)
-
 put-line-requires : tie.Need-put-line-requires Inv-loop μ-loop
 put-line-requires c κs =
-    let some = taken (c .before .before .before .before .before) in
-    let fits = room (turn (received (some .before) .before)) in
-    fits
+    let some = taken (c .before .before) in
+    room (turn (received (some .before) .before))
 
 add-at : tie.Need-add-at Inv-loop μ-loop
 add-at c =
-    let some = taken (ran c .before) in
+    let some = taken (idled c .before) in
     omega (arith, inside some .2, start (turn (received (some .before) .before) .before) .pre .1 .1 .0)
 
 add-place : tie.Need-add-place Inv-loop μ-loop
-add-place c = omega (arith, room (turn (received (taken (ran c .before) .before) .before)) .1)
+add-place c = omega (arith, room (turn (received (taken (idled c .before) .before) .before)) .1)
 
 loop-less : tie.Need-loop-less Inv-loop μ-loop
 loop-less c =
-    let some = taken (ran c .before) in
+    let some = taken (idled c .before) in
     let size = inside some in
     omega (arith, size .1, size .2, turn (received (some .before) .before) .loop-test .taken)
 
 loop-again : tie.Need-loop-again Inv-loop μ-loop
 loop-again c =
-    let due = ran c in
-    let some = taken (due .before) in
+    let done = idled c in
+    let some = taken (done .before) in
     let call = received (some .before) in
     let t = turn (call .before) in
     let put = t .before .loop .inv in
     let got = call .receive .ensures .kept (panelIn put) (put .invariant) in
-    let steps = due .run-due .ensures .kept (stateAfter got) (got .invariant) in
+    let steps = done .idle .ensures .kept (stateAfter got) (got .invariant) in
     put-step put (t .loop-test .taken) got (some .if1 .left) steps refl (c .before .before .put-line .ensures)
 
 -- ---- the end
@@ -219,9 +176,7 @@ put-messages-spec =
     put-unread-requires
     same-length
     returns
-    run-due-requires
-    add-undos-done
-    add-executions-done
+    idle-requires
     put-line-requires
     add-at
     add-place

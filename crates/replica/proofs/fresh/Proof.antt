@@ -1,18 +1,13 @@
 -- `fresh` meets its contract.
-use mathlib.Core.Path.{sym, _∙_}
-use Rattle.replica.proofs.FreshLaws.{fresh-refused, fresh-opened}
 use borrow.Author.Needs.{needs}
 use Rattle.replica.proofs.fresh.Statement.{statement}
 use Rattle.replica.proofs.fresh.Tie as tie
 
-bad-shop-requires : tie.Need-bad-shop-requires
-bad-shop-requires c κs = search needs
+shop-of-requires : tie.Need-shop-of-requires
+shop-of-requires c κs = search needs
 
 returns : tie.Need-returns
-returns c = fresh-refused _ _ (sym (c .before .bad-shop .ensures) ∙ c .if1 .taken)
-
-returns-2 : tie.Need-returns-2
-returns-2 c = fresh-opened _ _ (sym (c .before .bad-shop .ensures) ∙ c .if1 .left)
+returns c = c .before .shop-of .ensures
 
 pub fresh-spec : {M : Type 1} → statement M
-fresh-spec = tie.close (tie.spec bad-shop-requires returns returns-2)
+fresh-spec = tie.close (tie.spec shop-of-requires returns)

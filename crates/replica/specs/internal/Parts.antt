@@ -10,13 +10,14 @@ use Rattle.creek.specs.Book.{Call}
 use Rattle.creek.specs.Calls.{Replica}
 use Rattle.creek.specs.Execution.{registers}
 use Rattle.counters.specs.declared.Counters.{Counters}
-use Rattle.replica.specs.State.{State, Opened}
+use Rattle.replica.specs.State.{State, Opened, firstMemory}
 use Rattle.replica.specs.internal.Cores.{packed}
 use Rattle.replica.specs.declared.RegisterValue.{RegisterValue}
 use Rattle.replica.specs.declared.PlacedRequest.{PlacedRequest}
 use Rattle.replica.specs.internal.Cores.{coreIn, withOrdering}
 use Rattle.replica.specs.internal.Model.{model, Inv}
 use Rattle.replica.specs.declared.Opening.{Opening}
+use Rattle.replica.specs.declared.Shop.{Shop}
 use Rattle.replica.specs.internal.Cores.{packed}
 use Rattle.replica.specs.Promises.{Kept}
 use Rattle.replica.specs.Shown.{RegisterShown, PlaceShown}
@@ -92,6 +93,10 @@ openedBy committed ordered executed stacked commits clock panels events held kno
         settled = setOf settled;
       };
     }
+
+-- that shop was opened, and all its panel's numbers are 0
+abbrev pub openedWithZeros : Shop → Opened
+openedWithZeros r = record { refusal = r .refusal; state = firstMemory (r .panels) (r .own) }
 
 -- ---- the showing calls
 

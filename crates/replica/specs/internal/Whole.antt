@@ -23,36 +23,45 @@ NumberLent = Both (RefT ℕ) (RefT ℕ)
 abbrev pub WordsLent : Type 0
 WordsLent = Both (RefT (List ℕ)) (RefT (List ℕ))
 
--- the memory of a panel of that shop and own number, where it is passed
-abbrev pub wholeNow : ℕ → PanelNo → (committed ordered executed stacked commits clock events undos executions : NumberNow)
-    (held known awaiting clocks askings contexts order stack registers saved responses settled : WordsNow) → State
-wholeNow panels own committed ordered executed stacked commits clock events undos executions held known awaiting clocks askings contexts
+-- the memory of a panel of that shop and own number, with those counts, counters and arrays
+abbrev pub whole : ℕ → PanelNo → (committed ordered executed stacked commits clock events undos executions : ℕ)
+    (held known awaiting clocks askings contexts order stack registers saved responses settled : List ℕ) → State
+whole panels own committed ordered executed stacked commits clock events undos executions held known awaiting clocks askings contexts
     order stack registers saved responses settled = record {
       panels = panels;
       own = own;
-      events = events .now;
-      clock = clockReading (clock .now);
-      committed = committed .now;
-      ordered = ordered .now;
-      executed = executed .now;
-      stacked = stacked .now;
-      commits = commits .now;
-      counters = record { undos = undos .now; executions = executions .now };
-      held = setOf (held .now);
-      known = setOf (known .now);
-      awaiting = setOf (awaiting .now);
-      clocks = clocks .now;
-      askings = askings .now;
-      contexts = contexts .now;
-      order = order .now;
-      stack = stack .now;
-      registers = registers .now;
-      saved = saved .now;
-      responses = responses .now;
-      settled = setOf (settled .now);
+      events = events;
+      clock = clockReading clock;
+      committed = committed;
+      ordered = ordered;
+      executed = executed;
+      stacked = stacked;
+      commits = commits;
+      counters = record { undos = undos; executions = executions };
+      held = setOf held;
+      known = setOf known;
+      awaiting = setOf awaiting;
+      clocks = clocks;
+      askings = askings;
+      contexts = contexts;
+      order = order;
+      stack = stack;
+      registers = registers;
+      saved = saved;
+      responses = responses;
+      settled = setOf settled;
     }
 
--- the same at a function's entry, and at its exit
+-- the same where references to them are passed
+abbrev pub wholeNow : ℕ → PanelNo → (committed ordered executed stacked commits clock events undos executions : NumberNow)
+    (held known awaiting clocks askings contexts order stack registers saved responses settled : WordsNow) → State
+wholeNow panels own committed ordered executed stacked commits clock events undos executions held known awaiting clocks askings contexts
+    order stack registers saved responses settled =
+    whole panels own (committed .now) (ordered .now) (executed .now) (stacked .now) (commits .now) (clock .now) (events .now)
+    (undos .now) (executions .now) (held .now) (known .now) (awaiting .now) (clocks .now) (askings .now) (contexts .now) (order .now)
+    (stack .now) (registers .now) (saved .now) (responses .now) (settled .now)
+
+-- and at a function's entry and at its exit
 abbrev pub wholeEntry : ℕ → PanelNo → (committed ordered executed stacked commits clock events undos executions : NumberLent)
     (held known awaiting clocks askings contexts order stack registers saved responses settled : WordsLent) → State
 wholeEntry panels own committed ordered executed stacked commits clock events undos executions held known awaiting clocks askings contexts

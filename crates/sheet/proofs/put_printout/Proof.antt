@@ -9,7 +9,7 @@ use Rattle.text.proofs.PlacedLaws.{same-size}
 use Rattle.report.specs.Lines.{boardLine}
 use Rattle.report.specs.Sizes.{mostBoardBytes}
 use Rattle.report.proofs.SizeLaws.{board-short, refused-short}
-use Rattle.sheet.proofs.PuttingLaws.{printout-short, printout-bad, fresh-bad, fresh-good, registers-all, printed}
+use Rattle.sheet.proofs.PuttingLaws.{printout-short, printout-bad, fresh-bad, fresh-good, printed}
 use borrow.Author.Needs.{needs}
 use Rattle.sheet.proofs.put_printout.Statement.{statement}
 use Rattle.sheet.proofs.put_printout.Tie as tie
@@ -23,21 +23,14 @@ abbrev start : tie.Else1 → tie.Start
 start c = c .before .before .before
 
 -- the shop's bytes, from where it is opened
-abbrev shop : tie.After-fresh → tie.After-shared-slice-known3
-shop c =
-    c .before .before .before .before .before .before .before .before .before .before .before .before .before .before .before .before
-    .before .before .before .before .before
+abbrev shop : tie.After-shop-of → tie.After-shared-slice-known3
+shop c = c .before
 
-abbrev board : tie.After-settled2 → tie.After-put-board
-board c =
-    c .before .before .before .before .before .before .before .before .before .before .before .before .before .before .before .before
-    .before .before .before .before .before .before .before .before
+abbrev board : tie.After-put-shift-arg → tie.After-put-board
+board c = c .before .before .before .before
 
-abbrev opened : tie.After-put-board → tie.After-fresh
+abbrev opened : tie.After-put-board → tie.After-shop-of
 opened c = c .before .before .before .before
-
-abbrev messages : tie.After-registers3 → tie.After-put-messages
-messages c = c .before .before .before .before
 
 -- ---- under two bytes
 
@@ -67,8 +60,8 @@ shared-slice-read-panels c = search needs
 shared-slice-read-own : tie.Need-shared-slice-read-own
 shared-slice-read-own c = search needs
 
-fresh-requires : tie.Need-fresh-requires
-fresh-requires c κs = search needs
+shop-of-requires : tie.Need-shop-of-requires
+shop-of-requires c κs = search needs
 
 -- ---- a bad shop
 
@@ -87,10 +80,10 @@ returns-2 : tie.Need-returns-2
 returns-2 c =
     let w = c .before .before .put-refused2 .ensures in
     let bad = c .before .before .before .before in
-    let fresh = bad .before .before in
-    let is = fresh-bad _ _ _ (fresh .fresh .ensures .refusal) (bad .if2 .taken) in
+    let opened = bad .before .before in
+    let is = fresh-bad _ _ _ (opened .shop-of .ensures .refusal) (bad .if2 .taken) in
     record {
-      written = rw (printout-bad _ (long (shop fresh) .if1 .left) is) w;
+      written = rw (printout-bad _ (long (shop opened) .if1 .left) is) w;
       few = omega (arith, w .place, refused-short refusal.badShop (omega arith));
     }
 
@@ -115,73 +108,38 @@ put-board-requires c κs =
     let s = shop (c .before .before .before) in
     record { fits = omega (arith, start (long s) .pre .1, board-fits s) }
 
--- ---- the messages
+-- ---- the shift
 
-put-messages-requires : tie.Need-put-messages-requires
-put-messages-requires c κs =
+put-shift-requires : tie.Need-put-shift-requires
+put-shift-requires c κs =
     let w = board c .put-board .ensures in
-    let fresh = opened (board c) in
-    let s = shop fresh in
-    let pre = start (long s) .pre in (
-      fresh .fresh .ensures .invariant,
-      (long s .if1 .left, (pre .0, omega (arith, pre .1, w .place, same-size w, board-fits s))),
-    )
-
--- ---- the closing lines
-
-slice-aggregate-put-closing : tie.Need-slice-aggregate-put-closing
-slice-aggregate-put-closing c = sym (registers-all _ (messages c .put-messages .ensures .invariant))
-
-put-closing-requires : tie.Need-put-closing-requires
-put-closing-requires c κs =
-    let m = messages c .put-messages .ensures in
-    let w = board (messages c .before) .put-board .ensures in
-    let s = shop (opened (board (messages c .before))) in (
-      record { within = m .invariant .counts .committed; few = m .invariant .counts .ordered; all = registers-all _ (m .invariant) },
-      omega (arith, start (long s) .pre .1, w .place, same-size w, board-fits s, m .few, same-size (m .lines)),
-    )
+    let o = opened (board c) in
+    let s = shop o in
+    let pre = start (long s) .pre in
+    (o .shop-of .ensures .invariant, (long s .if1 .left, (pre .0, omega (arith, pre .1, w .place, same-size w, board-fits s))))
 
 same-length-3 : tie.Need-same-length-3
 same-length-3 c =
-    let z = c .before .before .put-closing .ensures in
-    let put = messages (c .before .before .before) in
-    same-size (z .written) ∙ same-size (put .put-messages .ensures .lines) ∙ same-size (board (put .before) .put-board .ensures)
+    let w = board (c .before .before .before) .put-board .ensures in
+    same-size (c .before .before .put-shift .ensures .written) ∙ same-size w
 
 returns-3 : tie.Need-returns-3
 returns-3 c =
-    let z = c .before .before .put-closing .ensures in
-    let put = messages (c .before .before .before) in
-    let m = put .put-messages .ensures in
-    let w = board (put .before) .put-board .ensures in
-    let fresh = opened (board (put .before)) in
-    let f = fresh .fresh .ensures in
-    let good = fresh-good _ _ _ (f .refusal) (board (put .before) .before .before .if2 .left) in
-    let s = shop fresh in
+    let z = c .before .before .put-shift .ensures in
+    let put = board (c .before .before .before) in
+    let w = put .put-board .ensures in
+    let o = opened put in
+    let f = o .shop-of .ensures in
+    let s = shop o in
+    let good = fresh-good _ _ _ (f .refusal) (put .before .before .if2 .left) in
     record {
-      written = printed (long s .if1 .left) good (f .state) w m z;
-      few = omega (arith, w .place, board-fits s, m .few, z .few);
+      written = printed _ (long s .if1 .left) good (f .state) w (z .written);
+      few = omega (arith, w .place, board-fits s, z .few);
     }
 
 pub put-printout-spec : {M : Type 1} → statement M
 put-printout-spec =
     tie.close
-    (tie.spec
-    cast-put-refused
-    put-refused-requires
-    same-length
-    returns
-    shared-slice-read-panels
-    shared-slice-read-own
-    fresh-requires
-    cast-put-refused-2
-    put-refused-requires-2
-    same-length-2
-    returns-2
-    cast-put-board
-    cast-put-board-2
-    put-board-requires
-    put-messages-requires
-    slice-aggregate-put-closing
-    put-closing-requires
-    same-length-3
-    returns-3)
+    (tie.spec cast-put-refused put-refused-requires same-length returns shared-slice-read-panels shared-slice-read-own shop-of-requires
+    cast-put-refused-2 put-refused-requires-2 same-length-2 returns-2 cast-put-board cast-put-board-2 put-board-requires
+    put-shift-requires same-length-3 returns-3)
