@@ -9,8 +9,8 @@
  * anybody else. A stored panel belongs to one revision of the library: store MIZZENCORD_VERSION beside it.
  *
  * A run of bytes is a pointer and a length; the pointer is not null, even where the length is 0. It must not overlap the panel of the same
- * call, and the runs that one call is lent must not overlap where one of them is written. Document 01's words: make is invoke, hear deliver,
- * settle commit, carry out execute.
+ * call, and the runs that one call is lent must not overlap where one of them is written. Document 01's words: make is invoke, hear
+ * deliver, settle commit, carry out execute.
  */
 #ifndef MIZZENCORD_H
 #define MIZZENCORD_H
@@ -94,8 +94,8 @@ typedef struct {
     uint8_t event;
 } mizzencord_number;
 
-/* What a request asks for: an operation on register r, under a move from r to q, under a claim of registers together on r to q, else q is 0;
- * one that is not strong is weak. */
+/* What a request asks for: an operation on register r, under a move from r to q, under a claim of registers together on r to q, else q is
+ * 0; one that is not strong is weak. */
 typedef struct {
     uint8_t code;
     uint8_t r;
@@ -154,8 +154,8 @@ typedef struct {
     uint8_t refusal;
 } mizzencord_reply;
 
-/* What the message at a place led to: the answer, which has no request; which message it was, by the number and the kind on the bus; and its
- * bytes. Number, kind and bytes are 0 where none could be read; the reply then has the reader's refusal, or 0 at the end. */
+/* What the message at a place led to: the answer, which has no request; which message it was, by the number and the kind on the bus; and
+ * its bytes. Number, kind and bytes are 0 where none could be read; the reply then has the reader's refusal, or 0 at the end. */
 typedef struct {
     mizzencord_reply reply;
     mizzencord_number number;
@@ -183,8 +183,10 @@ typedef struct {
     uint8_t refusal;
 } mizzencord_placed;
 
-/* What a panel has of a request: its place in the standing order, counted from 1; whether it is in the settled list; whether it awaits a
- * reply, which only an own request does; whether it is executed now, and with which response, 0 where it is not. Zeros where it is refused. */
+/* What a panel has of a request: its place in the standing order, counted from 1; whether it is in the settled list, as a weak one is that
+ * was settled with a strong one; whether it awaits a reply, which only an own request does; whether it is executed now, and with which
+ * response, 0 where it is not: that of its last execution, which for a weak request may be another than in the reply that it was given.
+ * Zeros where it is refused. */
 typedef struct {
     uint32_t response;
     uint32_t place;
@@ -200,7 +202,8 @@ typedef struct {
     uint8_t refusal;
 } mizzencord_ran;
 
-/* A panel: 47,672 bytes, aligned as a uint64_t. Every byte of it is set by mizzencord_fresh. */
+/* A panel: 47,672 bytes, aligned as a uint64_t. Every byte of it is set by mizzencord_fresh, so panels that had the same calls from there
+ * have the same bytes. */
 #define MIZZENCORD_PANEL_SIZE 47672
 typedef struct {
     uint64_t memory[MIZZENCORD_PANEL_SIZE / 8];
@@ -320,8 +323,8 @@ mizzencord_ran mizzencord_run(const uint8_t *calls, size_t calls_length, uint8_t
 }
 #endif
 
-/* The word of a refusal, as document 01 has it; "accepted" for 0, and "no refusal" for what no call answers. A table of this header, so that
- * a program that does not use it has none of it. */
+/* The word of a refusal, as document 01 has it; "accepted" for 0, and "no refusal" for what no call answers. A table of this header, so
+ * that a program that does not use it has none of it. */
 static inline const char *mizzencord_refusal_word(uint8_t refusal) {
     switch (refusal) {
     case MIZZENCORD_ACCEPTED: return "accepted";
