@@ -202,8 +202,8 @@ typedef struct {
     uint8_t refusal;
 } mizzencord_ran;
 
-/* A panel: 47,672 bytes, aligned as a uint64_t. Every byte of it is set by mizzencord_fresh, so panels that had the same calls from there
- * have the same bytes. */
+/* A panel: 47,672 bytes, aligned as a uint64_t. Every byte of it is set by mizzencord_fresh. Panels that had the same calls from there
+ * have the same bytes: this is tested, not proved. */
 #define MIZZENCORD_PANEL_SIZE 47672
 typedef struct {
     uint64_t memory[MIZZENCORD_PANEL_SIZE / 8];
