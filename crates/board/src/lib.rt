@@ -1,4 +1,6 @@
 // A request taken off the board, and one put on it: what the two steps and all due steps at once do there.
+#![tactic(auto)]
+
 ghost use Rattle.std.specs.Prelude.{◌≡◌, true, ◌<◌};
 ghost use Rattle.ordering.specs.Slots.{most_slots};
 ghost use Rattle.creek.specs.Replies.{mark_of};

@@ -2,6 +2,8 @@
 //
 // The work is `wire::reader::read`'s, which takes a run of bytes and a place as plain parameters and serves every other caller.
 // That a refusal and the end leave the place is in `proofs/PlaceLaws.antt`.
+#![tactic(auto)]
+
 ghost use Rattle.std.specs.Prelude.{◌≡◌};
 ghost use Rattle.bus.specs.Place.{opened, next_message, advanced};
 

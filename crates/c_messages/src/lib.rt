@@ -1,4 +1,6 @@
 // Messages as C holds them: one read from bytes, and one written. The contracts are those of `wire`.
+#![tactic(auto)]
+
 ghost use Rattle.std.specs.Prelude.{◌≡◌};
 ghost use Rattle.wire.specs.Message.{as_message};
 ghost use Rattle.wire.specs.Reader.{answered, read_at};
@@ -13,7 +15,7 @@ use wire::{HeadAnswer, Kind, Subject, Written};
 // A message as C holds it: the request, or the settlement of its number, for which the other fields stand for nothing. An enum does not
 // cross to C.
 #[repr(C)]
-#[derive(Drop)]
+#[derive(Clone, Copy)]
 pub struct Message {
     pub request: Request,
     pub settles: bool,
@@ -21,7 +23,7 @@ pub struct Message {
 
 // What stands at a place: the message, the bytes taken and the refusal, zeros where there is none.
 #[repr(C)]
-#[derive(Drop)]
+#[derive(Clone, Copy)]
 pub struct Reading {
     pub message: Message,
     pub taken: usize,

@@ -3,6 +3,8 @@
 //
 // Under the sort `c` the bytes are a list of calls, and its answers are printed; under any other they are an input of the program
 // `printout`, and its printout is printed.
+#![tactic(auto)]
+
 mod answered;
 
 ghost use Rattle.std.specs.Prelude.{◌≡◌, ◌*◌, length};

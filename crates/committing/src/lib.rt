@@ -1,6 +1,8 @@
 // The call by which a held strong request is settled, commit: it is refused where that needs no context, else settled.
 //
 // It is given the numbers of a panel that it reads, and lent the counts that it changes and the arrays that it uses.
+#![tactic(auto)]
+
 ghost use Rattle.std.specs.Prelude.{◌≡◌, ◌≤◌};
 ghost use Rattle.numbers.specs.Numbers.{most_panels};
 ghost use Rattle.sets.specs.Sets.{set_of};

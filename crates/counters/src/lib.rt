@@ -2,12 +2,14 @@
 //
 // `count_undos` and `count_executions` are lent the counters and told how many steps were done. Whoever counts shows that the counter
 // stays within `most_steps` of `specs/`, so no addition overflows.
+#![tactic(auto)]
+
 ghost use Rattle.std.specs.Prelude.{◌≡◌, ◌+◌, ◌≤◌};
 ghost use Rattle.counters.specs.Counted.{most_steps, undos_counted, executions_counted};
 
 // Undos done and executions (carry-outs) done.
 #[repr(C)]
-#[derive(Drop)]
+#[derive(Clone, Copy)]
 pub struct Counters {
     pub undos: u32,
     pub executions: u32,

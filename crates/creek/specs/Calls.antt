@@ -34,7 +34,7 @@ fresh_refusal panels own = cond (bad_shop panels own) refused.bad_shop refused.a
 abbrev pub replica_of : Book → Replica
 replica_of b = record { book = b; awaiting = empty_set; commits = 0; counters = record { undos = 0; executions = 0 } }
 
--- what fresh returns; a refused fresh returns a one_panel shop, panel 0
+-- what fresh returns; a refused fresh returns a one-panel shop, panel 0
 unfoldable pub fresh : ℕ → ℕ → Replica
 fresh panels own = cond (bad_shop panels own) (replica_of (empty_book 1 0)) (replica_of (empty_book panels own))
 

@@ -3,6 +3,8 @@
 //
 // Numbers in brackets there are lines of Algorithm 1, and A2 those of Algorithm 2, in T. Kobus, M. Kokociński, P. T. Wojciechowski, "Creek:
 // Low-latency, Mixed-Consistency Transactional Replication Scheme", Institute of Computing Science, Poznań University of Technology.
+#![tactic(auto)]
+
 pub mod mark;
 
 use numbers::{Clock, Number};
@@ -10,7 +12,7 @@ use request::{Asked, Request};
 
 // What a caller asks for when a request is made, with the clock reading.
 #[repr(C)]
-#[derive(Drop)]
+#[derive(Clone, Copy)]
 pub struct Invocation {
     pub asked: Asked,
     pub clock: Clock,
@@ -18,7 +20,7 @@ pub struct Invocation {
 
 // What a step or a settlement says, and a reply that falls due, in eight bytes: its response, a request's number, the mark and the refusal.
 #[repr(C)]
-#[derive(Drop)]
+#[derive(Clone, Copy)]
 pub struct Reply {
     pub response: u32,
     pub number: Number,
@@ -28,7 +30,7 @@ pub struct Reply {
 
 // What a call answers: every field for every call, zeros where it has nothing to say.
 #[repr(C)]
-#[derive(Drop)]
+#[derive(Clone, Copy)]
 pub struct Answer {
     pub request: Request,
     pub response: u32,

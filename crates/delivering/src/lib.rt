@@ -2,6 +2,8 @@
 //
 // It is given the numbers of a panel that it reads, and lent the counts that it changes and the arrays that it uses. A request comes by its
 // number, its clock reading, what it asks for, and the lent words of its context.
+#![tactic(auto)]
+
 ghost use Rattle.std.specs.Prelude.{◌≡◌, length};
 ghost use Rattle.std.proofs.Math.Option.{some};
 ghost use Rattle.numbers.specs.Numbers.{most_panels};

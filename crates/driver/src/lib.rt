@@ -2,6 +2,8 @@
 //
 // The panel's numbers and arrays are locals of `run_list`, lent to all that is called from there. The crate `entries` carries out one call
 // and puts its answer; `Lists` of `specs/` says what a list of calls leads to.
+#![tactic(auto)]
+
 ghost use Rattle.std.specs.Prelude.{◌≡◌};
 ghost use Rattle.text.specs.Placed.{Room};
 ghost use Rattle.replica.specs.internal.Model.{Inv, model};
@@ -16,7 +18,7 @@ use request::refusal;
 
 // What a list of calls led to: how many were run, and refusal 20 without room for the answers, else fresh's.
 #[repr(C)]
-#[derive(Drop)]
+#[derive(Clone, Copy)]
 pub struct ListResult {
     pub ran: usize,
     pub refusal: u8,

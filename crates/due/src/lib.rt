@@ -1,4 +1,6 @@
 // All due steps in one call: what is to be rolled back is undone, then what is to do is executed.
+#![tactic(auto)]
+
 ghost use Rattle.std.specs.Prelude.{◌≡◌};
 ghost use Rattle.steps.specs.Lent.{undo_now, undo_entry, undo_exit, execute_now, execute_entry, execute_exit};
 ghost use Rattle.steps.specs.Steps.{UndoAsks, ExecuteAsks};
@@ -12,7 +14,7 @@ use request::{asks, refusal};
 
 // What all due steps were: how many undos and executions, and the replies that fell due, of which there are `count`.
 #[repr(C)]
-#[derive(Drop)]
+#[derive(Clone, Copy)]
 pub struct DueSteps {
     pub undos: u32,
     pub executions: u32,

@@ -1,4 +1,6 @@
 // Runs the cases at the edges of document 01 that it does not ask to be proved, and prints a line for each: the refusal number.
+#![tactic(auto)]
+
 use encoding::answers::ANSWER_SIZE;
 use libc::{STDIN_FILENO, STDOUT_FILENO};
 
@@ -21,7 +23,7 @@ fn print_idle(answers: [u8; CALLS * ANSWER_SIZE]) {
     print(answers[5 * ANSWER_SIZE]);
 }
 
-// The answers to a list of calls, encoded as `docs/CALLS.md` says: on panel 0 of a one_panel shop carry out, undo, make, carry out twice,
+// The answers to a list of calls, encoded as `docs/CALLS.md` says: on panel 0 of a one-panel shop carry out, undo, make, carry out twice,
 // undo.
 fn answers_to(list: &[u8]) -> [u8; CALLS * ANSWER_SIZE] {
     let mut answers = [0u8; CALLS * ANSWER_SIZE];

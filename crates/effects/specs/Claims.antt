@@ -38,7 +38,7 @@ pub record AllOrNone (o : Operation) (b : List ℕ) : Type 0 where
   pub all_responds : ((k : ℕ) → Among o k → get_or b k 0 ≡ 0) → response o b ≡ o.amount
   -- where one of them is not, the registers are the same list
   pub none : (k : ℕ) → Among o k → get_or b k 0 ≢ 0 → exec o b ≡ b
-  -- and the response is the value of the lowest_numbered one that is not 0
+  -- and the response is the value of the lowest-numbered one that is not 0
   pub none_responds : (k : ℕ) → Among o k → get_or b k 0 ≢ 0 → ((j : ℕ) → o.r ≤ j → j < k → get_or b j 0 ≡ 0) → response o b ≡ get_or b k 0
   -- no other register ever changes
   pub outside : (k : ℕ) → (k < o.r) ⊎ (o.q < k) → get_or (exec o b) k 0 ≡ get_or b k 0

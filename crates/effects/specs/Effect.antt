@@ -38,7 +38,7 @@ unfoldable pub first_held : (n k : ℕ) → List ℕ → ℕ
 first_held zero k b = 0
 first_held (suc n) k b = unless_zero (get_or b k 0) (first_held n (suc k) b)
 
--- the value of the lowest_numbered register from r to q that is not 0, or 0 where all of them are
+-- the value of the lowest-numbered register from r to q that is not 0, or 0 where all of them are
 unfoldable pub lowest_held : Operation → List ℕ → ℕ
 lowest_held o b = first_held (span o) o.r b
 

@@ -2,6 +2,8 @@
 //
 // `calls` has the places of the calls and reads their parts, `answers` puts one answer; `Encoding` of `specs/` has the encoding and what the
 // entries of a list lead to.
+#![tactic(auto)]
+
 pub mod answers;
 pub mod calls;
 

@@ -2,6 +2,8 @@
 //
 // The counts that change and the arrays are lent; the request comes by its slot and place, its clock reading, what it asks for, and the
 // lent words of its context.
+#![tactic(auto)]
+
 ghost use Rattle.std.specs.Prelude.{◌≡◌};
 ghost use Rattle.numbers.specs.internal.Slots.{number_of};
 ghost use Rattle.sets.specs.Sets.{set_of};

@@ -1,4 +1,6 @@
 // One call of a list, read and carried out on the panel, and its answer put; each function returns the place behind the answer.
+#![tactic(auto)]
+
 ghost use Rattle.std.specs.Prelude.{◌+◌, ◌≤◌, ◌<◌, length, get_or};
 ghost use Rattle.creek.specs.Book.{invoke};
 ghost use Rattle.replica.specs.internal.Parts.{Asks};

@@ -2,6 +2,8 @@
 //
 // Every function takes any operation that its contract lets in; `execute` and `execute_due` take any at all: one that names a register
 // over 63 changes nothing and responds 0. `set_all` and `off_board` serve rolling back in `registers`, too.
+#![tactic(auto)]
+
 ghost use Rattle.std.specs.Prelude.{◌≡◌, ◌+◌, ◌-◌, min, false, if◌then◌else◌};
 ghost use Rattle.effects.specs.Effect.{range, off_board, lowest_held, all_set, Executed};
 ghost use Rattle.effects.specs.internal.OnBoard.{MoveOnBoard, ClaimOnBoard};
@@ -139,7 +141,7 @@ fn execute_claim_all(registers: &mut [u32; 64], o: Operation) -> u32
     o.amount
 }
 
-// The value of the lowest_numbered register from r to q that is not 0, or 0 where all of them are.
+// The value of the lowest-numbered register from r to q that is not 0, or 0 where all of them are.
 fn lowest_held(registers: &[u32; 64], o: Operation) -> u32
     requires { off_board o ≡ false }
     ensures { result ≡ lowest_held o registers.now }

@@ -2,6 +2,8 @@
 //
 // `places` has where each field stands, `reading` and `writing` the parts from bytes and into them, `integers` what they are made of. The
 // crate is internal to `wire`: a function may require that what it reads or writes lies in the bytes lent.
+#![tactic(auto)]
+
 pub mod integers;
 pub mod places;
 pub mod reading;

@@ -1,4 +1,6 @@
 // Parts of standard input: a part is its length in three bytes, the lowest first, and then so many bytes.
+#![tactic(auto)]
+
 ghost use Rattle.std.specs.Prelude.{◌<◌};
 ghost use Rattle.io.specs.Counts.{IsPrefixLen};
 

@@ -1,6 +1,8 @@
 // A request heard from the bytes of its message: its fields go from there to the panel.
 //
 // The panel's parts are lent as in `delivering`, whose call this is.
+#![tactic(auto)]
+
 ghost use Rattle.std.specs.Prelude.{◌≡◌, ◌+◌, ◌≤◌, length, replicate};
 ghost use Rattle.numbers.specs.Numbers.{most_panels};
 ghost use Rattle.fields.specs.Widths.{weak_widths, size, decode};

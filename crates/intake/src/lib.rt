@@ -2,6 +2,8 @@
 //
 // The panel's parts are lent as in `delivering` and `committing`, whose calls these are. `Intake` of `specs/` says what a message stands for and
 // what receiving promises.
+#![tactic(auto)]
+
 ghost use Rattle.std.specs.Prelude.{◌≡◌};
 ghost use Rattle.creek.specs.Replies.{reply_answer};
 ghost use Rattle.wire.specs.Reader.{read_at};
@@ -17,7 +19,7 @@ use wire::{HeadAnswer, Kind};
 // What the message at a place led to: the answer, which has no request; which message it was; and its bytes. Number, kind and bytes are 0
 // where none could be read.
 #[repr(C)]
-#[derive(Drop)]
+#[derive(Clone, Copy)]
 pub struct Receipt {
     pub reply: Reply,
     pub number: Number,

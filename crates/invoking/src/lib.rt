@@ -1,6 +1,8 @@
 // The call by which a request is made, invoke.
 //
 // It is given the numbers of a panel that it reads, and lent the counts that it changes and the arrays that it uses.
+#![tactic(auto)]
+
 ghost use Rattle.std.specs.Prelude.{◌≡◌};
 ghost use Rattle.std.proofs.Math.Seq.{slice};
 ghost use Rattle.sets.specs.Sets.{set_of};

@@ -1,5 +1,7 @@
 // Sets of numbers in lent words, changed in place: `join` and `leave` write one word. They are the sets of the crate `sets`, whose
 // definitions the contracts cite.
+#![tactic(auto)]
+
 ghost use Rattle.std.specs.Prelude.{◌≡◌, length};
 ghost use Rattle.numbers.specs.Numbers.{most_panels};
 ghost use Rattle.numbers.specs.internal.Slots.{number_of, GoodNumber};

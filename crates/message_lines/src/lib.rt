@@ -1,6 +1,8 @@
 // The messages of the printout: each that is found in the input is received by the panel, and its line is put into lent bytes.
 //
 // The panel's memory is lent whole, and the contract speaks of it as one memory.
+#![tactic(auto)]
+
 ghost use Rattle.std.specs.Prelude.{◌+◌, ◌*◌, ◌≤◌, length};
 ghost use Rattle.report.specs.Sizes.{most_message_bytes};
 ghost use Rattle.replica.specs.internal.Model.{Inv};

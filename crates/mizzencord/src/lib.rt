@@ -3,6 +3,8 @@
 // A call on a panel reads the numbers and lends the counts and arrays that the function of `replica`, `invoking`, `delivering`, `committing`, `intake`, `steps`
 // or `due` uses, which does the work in place: nothing is copied. `include/mizzencord.h` declares all calls, and `docs/CALLS.md` says
 // what they answer. Here are the calls that change a panel; those that show one are in `showing`, those on bytes alone in `bytes`.
+#![tactic(auto)]
+
 pub mod bytes;
 pub mod opening;
 pub mod showing;
@@ -54,7 +56,7 @@ pub struct Panel {
     settled: [u64; 8],
 }
 
-// Makes the lent panel one of a shift's first moment; a refused one is a one_panel shop, panel 0. The answer is the refusal.
+// Makes the lent panel one of a shift's first moment; a refused one is a one-panel shop, panel 0. The answer is the refusal.
 #[unsafe(no_mangle)]
 pub extern "C" fn mizzencord_fresh(p: &mut Panel, panels: u8, own: PanelNo) -> u8
     ensures { Fresh panels own.0 (record { refusal = result; state = memory p.new })

@@ -3,6 +3,8 @@
 // No firmware needs them. They are a library of their own, so that a firmware's stays small and its inner functions have one caller
 // more often. Each lent slice crosses as a pointer and a length. `docs/CALLS.md` has the encoding of a list of calls. The contracts are
 // those of `sheet` and `driver`.
+#![tactic(auto)]
+
 ghost use Rattle.printed.specs.Printout.{Printed};
 ghost use Rattle.driver.specs.Lists.{Answered};
 

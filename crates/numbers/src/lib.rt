@@ -2,28 +2,30 @@
 // number's slot, its place in a table of 512.
 //
 // Each contract gives the result by the definition of the same name in `specs/`; their laws are in `proofs/`.
+#![tactic(auto)]
+
 ghost use Rattle.std.specs.Prelude.{◌≡◌};
 ghost use Rattle.numbers.specs.Numbers.{no_number, bad_number};
 ghost use Rattle.numbers.specs.internal.Slots.{slot_of, number_of};
 
 // A panel of the shop, counted from 0.
 #[repr(C)]
-#[derive(Drop)]
+#[derive(Clone, Copy)]
 pub struct PanelNo(pub u8);
 
 // An event of a panel, counted from 1: it names a request.
 #[repr(C)]
-#[derive(Drop)]
+#[derive(Clone, Copy)]
 pub struct EventNo(pub u8);
 
 // A clock reading: it places a request.
 #[repr(C)]
-#[derive(Drop)]
+#[derive(Clone, Copy)]
 pub struct Clock(pub u32);
 
 // A request's number.
 #[repr(C)]
-#[derive(Drop)]
+#[derive(Clone, Copy)]
 pub struct Number {
     pub panel: PanelNo,
     pub event: EventNo,

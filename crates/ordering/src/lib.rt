@@ -6,6 +6,8 @@
 //
 // `order` has clock order by slots, `insertion` the place of a request and insertion there, `common` the common start of two lists,
 // `later` a set of numbers without the requests at some places. The laws for a caller are in `proofs/`.
+#![tactic(auto)]
+
 pub mod common;
 pub mod insertion;
 pub mod later;

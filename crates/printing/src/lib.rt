@@ -1,4 +1,6 @@
 // The printout of an input, written to standard output.
+#![tactic(auto)]
+
 ghost use Rattle.std.specs.Prelude.{◌≡◌, length, take};
 ghost use Rattle.printed.specs.Printout.{most_input, most_printed, printout};
 

@@ -1,4 +1,6 @@
 // The printout program: at most 65,536 bytes of standard input, and on standard output the printout of them.
+#![tactic(auto)]
+
 use libc::STDIN_FILENO;
 
 fn main() {

@@ -2,13 +2,15 @@
 //
 // What operations do is said in `effects`, and executing one is `executing`'s; the laws of rolling back are in `proofs/`. Every function
 // takes any operation: one that names a register over 63 saves zeros and changes nothing.
+#![tactic(auto)]
+
 ghost use Rattle.std.specs.Prelude.{◌≡◌};
 ghost use Rattle.registers.specs.Rollback.{saved_of, restored, saved_in, SavedAs};
 
 use request::{Operation, operations};
 
 // The values of registers r and q from before an operation. Only this crate looks inside.
-#[derive(Drop)]
+#[derive(Clone, Copy)]
 pub struct Saved {
     r: u32,
     q: u32,

@@ -6,7 +6,7 @@ use Rattle.creek.specs.Calls.{bad_shop, fresh, fresh_refusal, step, answer}
 use Rattle.replica.specs.State.{State, first_memory, Opened, Called}
 use Rattle.replica.specs.internal.Model.{book_of, model, Inv}
 
--- the memory that fresh of that shop leaves; a refused one leaves that of a one_panel shop, panel 0
+-- the memory that fresh of that shop leaves; a refused one leaves that of a one-panel shop, panel 0
 abbrev pub fresh_memory : ℕ → ℕ → State
 fresh_memory panels own = cond (bad_shop panels own) (first_memory 1 (panel_no 0)) (first_memory panels (panel_no own))
 

@@ -12,6 +12,8 @@
 //
 // Fresh is here, the showing calls in `showing`; invoke is the crate `invoking`, deliver `delivering`, commit `committing`, undo and
 // execute are `steps`, all due steps at once are `due`. `State` of `specs/` is the memory as one record, `Model` maps it to a replica of `creek`.
+#![tactic(auto)]
+
 pub mod showing;
 
 ghost use Rattle.std.specs.Prelude.{◌≡◌, min};
@@ -32,7 +34,7 @@ pub use showing::{
 };
 
 // What fresh returns beside the parts that it is lent.
-#[derive(Drop)]
+#[derive(Clone, Copy)]
 pub struct Opening {
     pub counters: Counters,
     pub own: PanelNo,
@@ -40,7 +42,7 @@ pub struct Opening {
 }
 
 // A shop as it is opened, and refusal 1 where another was asked for.
-#[derive(Drop)]
+#[derive(Clone, Copy)]
 pub struct Shop {
     pub panels: u8,
     pub own: PanelNo,
@@ -49,7 +51,7 @@ pub struct Shop {
 
 // A register's value, or refusal 3.
 #[repr(C)]
-#[derive(Drop)]
+#[derive(Clone, Copy)]
 pub struct RegisterValue {
     pub value: u32,
     pub refusal: u8,
@@ -57,13 +59,13 @@ pub struct RegisterValue {
 
 // The request at a place of the standing order, or refusal 9.
 #[repr(C)]
-#[derive(Drop)]
+#[derive(Clone, Copy)]
 pub struct PlacedRequest {
     pub request: Request,
     pub refusal: u8,
 }
 
-// Makes the lent parts those of a panel with empty lists and a zero board; a refused one is a one_panel shop, panel 0. The number of panels
+// Makes the lent parts those of a panel with empty lists and a zero board; a refused one is a one-panel shop, panel 0. The number of panels
 // is lent as `shop`.
 pub fn fresh(
     committed: &mut usize,
@@ -128,7 +130,7 @@ pub fn fresh(
     }
 }
 
-// The shop that is opened for those numbers: a bad one is a one_panel shop, panel 0, and refusal 1. Its panel with a memory of zeros is
+// The shop that is opened for those numbers: a bad one is a one-panel shop, panel 0, and refusal 1. Its panel with a memory of zeros is
 // what fresh makes.
 pub fn shop_of(panels: u8, own: PanelNo) -> Shop
     ensures { Fresh panels own.0 (opened_with_zeros result) }

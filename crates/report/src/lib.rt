@@ -3,6 +3,8 @@
 // Every function puts one line of `specs/Lines`, or the registers' lines, at `at` in `out`, leaves every other byte alone and returns
 // the place behind it. `out` must have room for the line: whoever lends the bytes for a whole printout tests their length, and
 // `proofs/SizeLaws` says how long each line is at most, as `sizes` has it.
+#![tactic(auto)]
+
 pub mod sizes;
 
 ghost use Rattle.text.specs.Placed.{Room, Placed};

@@ -4,6 +4,8 @@
 // `asks`, operations in `operations`, the refusal numbers in `refusal`; clock order is `Order` of `specs/`; numbers and sets of numbers are crates of
 // their own.
 // Each contract gives the result by the definition of the same name in `specs/`; their laws are in `proofs/`.
+#![tactic(auto)]
+
 pub mod asks;
 pub mod operations;
 pub mod refusal;
@@ -15,7 +17,7 @@ use numbers::{Clock, Number};
 use sets::Context;
 
 // An operation on register r; under a move, from register r to register q; under a claim of registers together, on r to q.
-#[derive(Drop)]
+#[derive(Clone, Copy)]
 pub struct Operation {
     pub code: u8,
     pub r: u8,
@@ -25,7 +27,7 @@ pub struct Operation {
 
 // What a request asks for: the fields of an operation, and whether it is strong, in the order in which a bus message has them.
 #[repr(C)]
-#[derive(Drop)]
+#[derive(Clone, Copy)]
 pub struct Asked {
     pub code: u8,
     pub r: u8,
@@ -36,7 +38,7 @@ pub struct Asked {
 
 // A request; its fields stand so that there is no gap between them.
 #[repr(C)]
-#[derive(Drop)]
+#[derive(Clone, Copy)]
 pub struct Request {
     pub context: Context,
     pub asked: Asked,

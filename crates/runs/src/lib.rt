@@ -1,1 +1,2 @@
 // The messages found in a run of bytes, as definitions and laws: no code.
+#![tactic(auto)]

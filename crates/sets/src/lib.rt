@@ -1,6 +1,8 @@
 // Sets of numbers as eight words, each function working by words. No set holds a number with a panel over 7 or an event outside 1 to 64.
 //
 // Each contract gives the result by the definition of the same name in `specs/`; their laws are in `proofs/`.
+#![tactic(auto)]
+
 ghost use Rattle.std.specs.Prelude.{◌≡◌};
 ghost use Rattle.sets.specs.Sets.{empty_set, is_empty, names_from};
 ghost use Rattle.sets.specs.Sets.{difference as differenceOf, subset, lowest as lowestOf, lowest_lacking};
@@ -9,7 +11,7 @@ use numbers::{EventNo, Number, PanelNo};
 
 // A set of numbers: word p is panel p's, and bit e - 1 of it is event e's.
 #[repr(C)]
-#[derive(Drop)]
+#[derive(Clone, Copy)]
 pub struct Context {
     pub words: [u64; 8],
 }

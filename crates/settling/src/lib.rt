@@ -2,6 +2,8 @@
 // come before are in the crate `committing`.
 //
 // The numbers of a panel that are read are given, the counts that change and the arrays lent.
+#![tactic(auto)]
+
 ghost use Rattle.std.specs.Prelude.{◌≡◌};
 ghost use Rattle.numbers.specs.internal.Slots.{slot_of};
 ghost use Rattle.sets.specs.Sets.{set_of};

@@ -1,6 +1,8 @@
 // The printout of document 01, which is one definition of the input's bytes, `printout` of `printed`, put into lent bytes by `print`.
 //
 // The panel's memory is the locals of `put_shift`, which are lent to `message_lines`.
+#![tactic(auto)]
+
 ghost use Rattle.std.specs.Prelude.{◌+◌, ◌≤◌, length};
 ghost use Rattle.report.specs.Sizes.{most_totals_bytes, most_registers_bytes};
 ghost use Rattle.replica.specs.State.{first_memory};

@@ -9,7 +9,7 @@ ghost use Rattle.slots.specs.Settlement.{SettlementAsks, Settled, MovesAsk};
 use super::front;
 
 // What a settlement made of an order: how many are committed then, and the place behind the last slot that it moved.
-#[derive(Drop)]
+#[derive(Clone, Copy)]
 pub struct SettledOrder {
     pub committed: usize,
     pub end: usize,

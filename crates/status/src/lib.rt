@@ -2,6 +2,8 @@
 //
 // The parts of a panel are lent as in `replica`. A request of the standing order is executed where fewer than `executed` stand before it, and
 // its response is then kept at its place.
+#![tactic(auto)]
+
 ghost use Rattle.std.specs.Prelude.{◌≡◌, take};
 ghost use Rattle.status.specs.internal.Parts.{stand_before, refused_status, BeforeAsks, StatusAsks, StatusKept};
 
@@ -10,7 +12,7 @@ use request::refusal;
 
 // The status of a request, or a refusal with zeros.
 #[repr(C)]
-#[derive(Drop)]
+#[derive(Clone, Copy)]
 pub struct RequestStatus {
     pub response: u32,
     pub place: u32,

@@ -3,6 +3,8 @@
 // A step is given the numbers that it reads by value and lent the counts that it changes and the arrays; it returns its reply. Taking a
 // request off the board and putting one on are in the crate `board`. The steps are not counted here: whoever has the counters counts those
 // that a reply says were done.
+#![tactic(auto)]
+
 ghost use Rattle.creek.specs.Replies.{reply_answer, steps_done};
 ghost use Rattle.steps.specs.Lent.{undo_now, undo_entry, undo_exit, execute_now, execute_entry, execute_exit};
 ghost use Rattle.steps.specs.Steps.{UndoAsks, UndoKept, ExecuteAsks, ExecuteKept};
@@ -12,7 +14,7 @@ use creek::{Answer, Reply};
 use request::{asks, refusal};
 
 // A step as the component has it: its answer, and how many steps were done, which is 1 or, where it was refused, 0.
-#[derive(Drop)]
+#[derive(Clone, Copy)]
 pub struct Stepped {
     pub answer: Answer,
     pub steps: u32,

@@ -3,6 +3,8 @@
 // Every function puts one text of `specs/Text` at `at` in `out`, leaves every other byte alone and returns the place behind the text.
 // `out` must have room for the text: these are the parts of a printout, and whoever lends the bytes for a whole one tests their
 // length. The laws that put a printout together from its parts are in `proofs/PlacedLaws`.
+#![tactic(auto)]
+
 ghost use Rattle.std.specs.Prelude.{[], ◌∷◌, ◌++◌};
 ghost use Rattle.text.specs.Text.{decimal, numbers, rest_of_line, line};
 ghost use Rattle.text.specs.Placed.{Room, Placed};

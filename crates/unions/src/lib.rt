@@ -1,4 +1,6 @@
 // Sets of numbers in lent words: how many numbers one has that another lacks, and one put into another.
+#![tactic(auto)]
+
 ghost use Rattle.std.specs.Prelude.{◌≡◌, length};
 ghost use Rattle.numbers.specs.Numbers.{most_panels};
 ghost use Rattle.unions.specs.Lacked.{lacked_bits, lacked_count};

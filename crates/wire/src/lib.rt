@@ -4,6 +4,8 @@
 // it wants by `fields`, straight from the bytes. `messages` makes messages and tells their kind and size, `layout` has the numbers and sizes of
 // the kinds. The contracts cite `read_at` and `head_of` of `specs/`, the writer's `write_answer` and `after_write`; what a good head gives is in
 // `proofs/HeadLaws.antt`, that messages read back as written and write back as read in `proofs/RoundTrip.antt`.
+#![tactic(auto)]
+
 use request::Request;
 
 pub mod heads;
@@ -17,7 +19,7 @@ pub use messages::{kind_of, of_request, of_settlement};
 pub use reader::{read, refusal_of};
 
 // The kinds of messages; `kind_number` of `specs/` gives their numbers.
-#[derive(Drop)]
+#[derive(Clone, Copy)]
 pub enum Kind {
     Weak,
     Strong,
@@ -25,28 +27,28 @@ pub enum Kind {
 }
 
 // The kind that a number tells, where there is one.
-#[derive(Drop)]
+#[derive(Clone, Copy)]
 pub enum KindTold {
     Known(Kind),
     Unknown,
 }
 
 // What a message is about: a request, weak or strong, or the settlement of one.
-#[derive(Drop)]
+#[derive(Clone, Copy)]
 pub enum Subject {
     Request,
     Settlement,
 }
 
 // A message: the request, or the settlement of its number, for which the other fields stand for nothing.
-#[derive(Drop)]
+#[derive(Clone, Copy)]
 pub struct Message {
     pub subject: Subject,
     pub request: Request,
 }
 
 // What stands at a place: a message, the end of the bytes, or what is refused by this number.
-#[derive(Drop)]
+#[derive(Clone, Copy)]
 pub enum ReadAnswer {
     Message,
     End,
@@ -54,7 +56,7 @@ pub enum ReadAnswer {
 }
 
 // What stands at a place by its head: a message of a kind, the end of the bytes, or what is refused by this number.
-#[derive(Drop)]
+#[derive(Clone, Copy)]
 pub enum HeadAnswer {
     Good(Kind),
     End,
@@ -62,14 +64,14 @@ pub enum HeadAnswer {
 }
 
 // A head: the answer with the bytes that the message takes, 0 where there is none.
-#[derive(Drop)]
+#[derive(Clone, Copy)]
 pub struct Head {
     pub answer: HeadAnswer,
     pub taken: usize,
 }
 
 // An answer with the message and the bytes taken, zeros where there is no message.
-#[derive(Drop)]
+#[derive(Clone, Copy)]
 pub struct Reading {
     pub answer: ReadAnswer,
     pub message: Message,
@@ -78,7 +80,7 @@ pub struct Reading {
 
 // The bytes written, and the refusal, or 0.
 #[repr(C)]
-#[derive(Drop)]
+#[derive(Clone, Copy)]
 pub struct Written {
     pub bytes: usize,
     pub refusal: u8,

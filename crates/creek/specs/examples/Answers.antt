@@ -157,7 +157,7 @@ answer_cases =
     ∷ case (fields_told [] names_no_panel) (refusal_alone refused.bad_context)
     ∷ case (fields_told (deliver (strong 1 1 5 (read 0) empty_set) ∷ []) names_itself) (refusal_alone refused.bad_context)
     ∷ case (fields_told (hear ∷ []) (deliver (weak 1 1 11 (set_to 63 8)))) (refusal_alone refused.number_clash)
-    -- a refused fresh returns a one_panel shop, panel 0, which is used like any other: there is no panel 1 in it
+    -- a refused fresh returns a one-panel shop, panel 0, which is used like any other: there is no panel 1 in it
     ∷ case (fresh_refusal 9 0 ∷ answers (fresh 9 0) (make 7 (read 0) ∷ execute ∷ hear ∷ commit (numbered 0 1) ∷ []))
     (refused.bad_shop ∷ refused.accepted ∷ refused.accepted ∷ refused.bad_number ∷ refused.weak ∷ [])
     ∷ []

@@ -41,7 +41,7 @@ unfoldable pub cases : List Case
 cases =
     -- fresh 8, 7 good; 9, 0 and 3, 3 refused 1
     case (fresh_refusal 8 7 ∷ fresh_refusal 9 0 ∷ fresh_refusal 3 3 ∷ []) (refused.accepted ∷ refused.bad_shop ∷ refused.bad_shop ∷ [])
-    -- and then it returns a one_panel shop, panel 0
+    -- and then it returns a one-panel shop, panel 0
     ∷ case ((fresh 9 0).book.plan.panels ∷ (fresh 9 0).book.plan.own ∷ []) (1 ∷ 0 ∷ [])
     -- add 4,294,967,295 to 5: 4
     ∷ case (on_registers 5 0 (add 4294967295 0)) (4 ∷ 4 ∷ 0 ∷ [])

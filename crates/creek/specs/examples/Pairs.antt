@@ -120,7 +120,7 @@ pairs =
     -- what refused calls and steps leave: nothing of the order
     ∷ case (places_in (at_three (undo ∷ execute ∷ deliver weak_one ∷ deliver weak_one ∷ execute ∷ commit (numbered 0 1) ∷ deliver strong_zero
     ∷ commit (numbered 0 1) ∷ undo ∷ []))) (1 ∷ 0 ∷ 1 ∷ 1 ∷ 1 ∷ [])
-    -- the panel of a refused fresh is the panel of a one_panel shop
+    -- the panel of a refused fresh is the panel of a one-panel shop
     ∷ case (places_in (record { panels = 9; own = 0; calls = make 5 (add 3 4) ∷ [] })) (0 ∷ 0 ∷ 1 ∷ [])
     ∷ case (places_in (record { panels = 1; own = 0; calls = make 5 (add 3 4) ∷ [] })) (0 ∷ 0 ∷ 1 ∷ [])
     -- when both are idle, register 4 is the same at both

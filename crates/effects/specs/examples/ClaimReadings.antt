@@ -15,7 +15,7 @@ abbrev pub one_seven : List ℕ
 one_seven = 0 ∷ 7 ∷ replicate 62 0
 
 pub record ClaimReadings : Type 0 where
-  -- the lowest one held is the lowest_numbered one, not the one with the least value
+  -- the lowest one held is the lowest-numbered one, not the one with the least value
   pub lowest_numbered : Executed (claim_all 1 4 7) nine_then_three nine_then_three 9
   -- at most four are q − r + 1 at most 4
   pub four_good : bad_operation (claim_all 60 63 7) ≡ false
