@@ -1,0 +1,32 @@
+-- `board::put_on` meets its contract.
+use mathlib.Core.Path.{refl, sym, ◌∙◌}
+use borrow.Author.Tests.{not-true, not-false}
+use Rattle.board.proofs.put_on.Goals as goal
+
+-- nobody awaits it
+pub returns-then-not-member_at : goal.returns-then-not-member_at
+returns-then-not-member_at c =
+    record {
+      on_board_is = refl;
+      kept = refl;
+      replied = refl;
+      number = c.number_of-number.ensures;
+      its-response = refl;
+      refusal = refl;
+      mark = rw (sym c.member_at.ensures ∙ not-true _ c.if-not-member_at.true);
+      waits = refl;
+    }
+
+-- somebody does
+pub returns : goal.returns
+returns c =
+    record {
+      on_board_is = refl;
+      kept = refl;
+      replied = refl;
+      number = c.number_of-number.ensures;
+      its-response = refl;
+      refusal = refl;
+      mark = c.mark_of-mark.ensures ∙ rw (sym c.member_at.ensures ∙ not-false _ c.if-not-member_at.false);
+      waits = c.end_waiting.ensures;
+    }

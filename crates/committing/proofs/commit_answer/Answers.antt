@@ -1,0 +1,32 @@
+-- `committing::commit_answer` meets its contract by that of `settle`, and by the early refusals.
+use mathlib.Core.Path.{sym, ◌∙◌}
+use Rattle.replica.specs.State.{State}
+use Rattle.settling.specs.Settling.{lent_now, commit_parts}
+use Rattle.settling.proofs.SettlingHeldLaws.{few_panels}
+use Rattle.settling.proofs.SettlingRefusalLaws.{kept_early}
+use Rattle.committing.proofs.commit_answer.Goals as goal
+use Rattle.committing.proofs.commit_answer.Goals.{Start}
+
+-- a panel with the parts lent
+abbrev lent : Start → State → State
+lent a =
+    commit_parts a.args.panels a.args.ordered (lent_now a.args.committed a.args.executed a.args.commits a.args.held
+    a.args.known a.args.awaiting a.args.clocks a.args.askings a.args.contexts a.args.order a.args.stack
+    a.args.responses a.args.settled)
+
+pub early_refusal-refusal-requires : goal.early_refusal-refusal-requires
+early_refusal-refusal-requires c = let a = c.before in few_panels {p = lent a a.requires.panel} a.requires.invariant
+
+pub returns-then-refusal-ne-ACCEPTED : goal.returns-then-refusal-ne-ACCEPTED
+returns-then-refusal-ne-ACCEPTED c =
+    let told = c.before.before in
+    let a = told.before.before in
+    record { kept = λ p inv. kept_early {p = lent a p} inv told.early_refusal-refusal.ensures c.if-refusal-ne-ACCEPTED.true c.refused.ensures }
+
+pub settle-reply-requires : goal.settle-reply-requires
+settle-reply-requires c =
+    let else = c.before.before.before.before.before.before.before in
+    (else.requires, sym else.early_refusal-refusal.ensures ∙ else.if-refusal-ne-ACCEPTED.false)
+
+pub returns : goal.returns
+returns c = rw c.answer_of.ensures c.settle-reply.ensures

@@ -1,0 +1,8 @@
+-- `calls::call_count` meets its contract.
+use native.Mathlib.Omega.{arith}
+use Rattle.encoding.specs.Encoding.{call_count}
+use Rattle.encoding.proofs.calls.call_count.Goals as goal
+
+pub returns-then-s-lt-CALLS_AT : goal.returns-then-s-lt-CALLS_AT
+unfolding call_count
+returns-then-s-lt-CALLS_AT c = omega arith

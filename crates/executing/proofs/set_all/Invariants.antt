@@ -1,0 +1,15 @@
+-- `set_all` meets its contract. The invariant: setting what is left from `at` on gives all of them set.
+use Rattle.std.proofs.Common.{◌≡◌, suc, ◌-◌, ◌≤◌, replicate, sym, refl, ◌∙◌, arith, rules}
+use lib.Seq.{sets}
+use Rattle.request.specs.Operations.{last_register}
+use Rattle.effects.specs.Effect.{all_set}
+use Rattle.effects.proofs.RegisterLaws.{on_board_is}
+use Rattle.effects.proofs.SpanLaws.{set_on, set-end}
+use Rattle.executing.proofs.set_all.Given as goal
+
+abbrev pub invariant-loop-at : goal.invariant-loop-at
+invariant-loop-at l =
+    (l.end ≤ suc last_register) × (sets l.registers l.at (replicate (l.end - l.at) l.v) ≡ sets l.initial.registers l.initial.at (replicate (l.end - l.initial.at) l.v))
+
+abbrev pub decreases-loop-at : goal.decreases-loop-at
+decreases-loop-at l = l.end - l.at

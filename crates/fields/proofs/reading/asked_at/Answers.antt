@@ -1,0 +1,9 @@
+-- `reading::asked_at` meets its contract: the fields stand where the layout has them.
+use native.Mathlib.Nat.{add_assoc, add-zero}
+use Rattle.fields.specs.Widths.{decode}
+use Rattle.fields.specs.Integers.{integer_at}
+use Rattle.fields.proofs.reading.asked_at.Goals as goal
+
+pub returns : goal.returns
+unfolding decode integer_at
+returns c = rw c.integer_at-amount.ensures.0 (simp (add_assoc, add-zero))

@@ -1,0 +1,49 @@
+-- `reading::words_at` meets its contract: reading the words from the p-th on equals reading them all.
+use Prim.Native.Nat.{◌+◌, ◌-◌, ◌*◌, ◌≤◌}
+use mathlib.Core.Path.{◌≡◌, sym, ◌∙◌}
+use native.Mathlib.Omega.{arith}
+use lib.ListN.{length, length-set}
+use lib.Seq.{sets}
+use Rattle.lists.proofs.PlaceLaws.{sets_all}
+use Rattle.numbers.specs.Numbers.{most_panels}
+use Rattle.fields.specs.Widths.{word_width, context_widths, decode}
+use Rattle.fields.proofs.WidthLaws.{length-decode, words_from, word_read}
+use Rattle.fields.proofs.reading.words_at.Goals as goal
+
+pub loop-p-init : goal.loop-p-init
+loop-p-init c =
+    let long = c.requires.0 in
+    (omega arith, omega arith, long, sets_all _ _ (length-decode context_widths _ _ ∙ sym long))
+
+pub word_at-requires : goal.word_at-requires
+word_at-requires c = omega arith
+
+pub offset_bounds-words-p : goal.offset_bounds-words-p
+offset_bounds-words-p c = omega arith
+
+pub bounds-words-p : goal.bounds-words-p
+bounds-words-p c = omega arith
+
+pub overflow_add-at : goal.overflow_add-at
+overflow_add-at c = omega arith
+
+pub overflow_add-p : goal.overflow_add-p
+overflow_add-p c = omega arith
+
+pub loop-p-smaller : goal.loop-p-smaller
+loop-p-smaller c = omega arith
+
+pub loop-p-preserved : goal.loop-p-preserved
+loop-p-preserved c =
+    let l = c.loop-p in (
+      omega arith,
+      omega arith,
+      simp length-set l.invariant.2,
+      word_read l.p (omega arith) l.words _ l.at _ c.word_at.ensures ∙ l.invariant.3,
+    )
+
+pub returns : goal.returns
+unfolding decode
+returns c =
+    let none : most_panels - c.loop-p.p ≡ 0 = omega arith in
+    rw none at c.loop-p.invariant.3

@@ -1,0 +1,21 @@
+-- `reading::words_at` meets its contract: reading the words from the p-th on equals reading them all.
+use Prim.Native.Nat.{◌+◌, ◌-◌, ◌*◌, ◌≤◌}
+use mathlib.Core.Path.{◌≡◌, sym, ◌∙◌}
+use native.Mathlib.Omega.{arith}
+use lib.ListN.{length, length-set}
+use lib.Seq.{sets}
+use Rattle.lists.proofs.PlaceLaws.{sets_all}
+use Rattle.numbers.specs.Numbers.{most_panels}
+use Rattle.fields.specs.Widths.{word_width, context_widths, decode}
+use Rattle.fields.proofs.WidthLaws.{length-decode, words_from, word_read}
+use Rattle.fields.proofs.reading.words_at.Given as goal
+
+abbrev pub invariant-loop-p : goal.invariant-loop-p
+invariant-loop-p l =
+    (l.p ≤ most_panels)
+    × (l.at ≡ l.from + word_width * l.p)
+    × (length l.words ≡ most_panels)
+    × (sets l.words l.p (decode (words_from l.p) l.s l.at) ≡ decode context_widths l.s l.from)
+
+abbrev pub decreases-loop-p : goal.decreases-loop-p
+decreases-loop-p l = most_panels - l.p

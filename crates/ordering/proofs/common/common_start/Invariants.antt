@@ -1,0 +1,20 @@
+-- `common::common_start` meets its contract. The invariant: the place, with what is common from there on, is the whole's.
+use Prim.Native.Nat.{ℕ, ◌+◌, ◌≤◌, ◌<◌, ◌-◌}
+use native.Mathlib.Omega.{arith}
+use mathlib.Core.Path.{◌≡◌, refl, sym, ap, ◌∙◌}
+use mathlib.Core.Bool.{Bool, true, false, ◌&&◌}
+use mathlib.Core.List.{List}
+use lib.Dec.{eqb, ltb}
+use lib.Seq.{slice}
+use Rattle.lists.specs.Lists.{common_start}
+use Rattle.lists.proofs.BoolLaws.{both_true}
+use Rattle.lists.proofs.StepLaws.{common_on, common_stops, common_end_first, common_end_second}
+use Rattle.ordering.proofs.common.common_start.Given as goal
+
+abbrev pub invariant-loop-place : goal.invariant-loop-place
+invariant-loop-place l =
+    (l.place ≤ l.n) × (l.place ≤ l.m)
+    × (l.place + common_start eqb (slice l.place l.n l.xs) (slice l.place l.m l.ys) ≡ l.at + common_start eqb (slice l.at l.n l.xs) (slice l.at l.m l.ys))
+
+abbrev pub decreases-loop-place : goal.decreases-loop-place
+decreases-loop-place l = l.n - l.place

@@ -1,0 +1,59 @@
+-- `insertion::place` meets its contract; the laws of the search by halves are in `HalvesLaws` of the lists.
+use Prim.Native.Nat.{ℕ, ◌+◌, ◌-◌, ◌/◌}
+use native.Mathlib.Omega.{arith}
+use mathlib.Core.Path.{sym, ap, ◌∙◌}
+use mathlib.Core.Bool.{not}
+use Rattle.lists.proofs.HalvesLaws.{Halving, halving_starts, halving-passed, halving_failed, halving_ends}
+use Rattle.ordering.specs.Slots.{comes_before}
+use Rattle.ordering.proofs.SlotLaws.{comparison_asked}
+use Rattle.ordering.proofs.InsertionLaws.{place_behind_last}
+use Rattle.ordering.proofs.insertion.place.Goals as goal
+use Rattle.ordering.proofs.insertion.place.Goals.{Else-comes_before, Start, Then-comes_before}
+
+-- ---- earlier places of the function, from later ones
+abbrev start_from_passed : Then-comes_before → Start
+start_from_passed c = c.before.before.before.before.before.before.before
+
+abbrev start_from_failed : Else-comes_before → Start
+start_from_failed c = c.before.before.before.before.before.before.before
+
+-- the place that a turn looks at
+abbrev middle : ℕ → ℕ → ℕ
+middle low high = low + (high - low) / 2
+
+pub comes_before-requires : goal.comes_before-requires
+comes_before-requires c =
+    comparison_asked _ _ _ _ (c.args.to - 1) c.requires.order (omega (arith, c.if-from-to.true)) (omega (arith, c.if-from-to.true))
+
+pub returns-then-not-comes_before : goal.returns-then-not-comes_before
+returns-then-not-comes_before c =
+    let more = c.before.before.before.before in
+    place_behind_last _ _ _ _ _ _ more.requires more.if-from-to.true (sym (ap not c.comes_before.ensures) ∙ c.if-not-comes_before.true)
+
+pub loop-low-init : goal.loop-low-init
+loop-low-init c = halving_starts _ _ _ _ _ c.requires.order.part.rising
+
+pub comes_before-requires-in-loop-low : goal.comes_before-requires-in-loop-low
+comes_before-requires-in-loop-low c =
+    let v = c.loop-low in
+    comparison_asked _ _ _ _ (middle v.low v.high) c.requires.order
+    (omega (arith, v.invariant.first)) (omega (arith, v.invariant.last))
+
+pub loop-low-preserved-then-comes_before : goal.loop-low-preserved-then-comes_before
+loop-low-preserved-then-comes_before c =
+    let a = start_from_passed c in
+    let v = c.loop-low in
+    halving-passed _ _ _ _ _ a.requires.split _ _ v.invariant (middle v.low v.high) (omega arith) (omega arith)
+    (sym c.comes_before-in-loop-low.ensures ∙ c.if-comes_before.true)
+
+pub loop-low-preserved : goal.loop-low-preserved
+loop-low-preserved c =
+    let a = start_from_failed c in
+    let v = c.loop-low in
+    halving_failed _ _ _ _ _ a.requires.split _ _ v.invariant (middle v.low v.high) (omega arith) (omega arith)
+    (sym c.comes_before-in-loop-low.ensures ∙ c.if-comes_before.false)
+
+pub returns : goal.returns
+returns c =
+    let a = c.requires.order.part in
+    halving_ends _ _ _ _ _ _ _ c.loop-low.invariant (omega arith) (omega (arith, a))

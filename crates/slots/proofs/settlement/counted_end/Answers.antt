@@ -1,0 +1,54 @@
+-- `settlement::counted_end` meets its contract; the laws of a turn are in `CountedLaws`.
+use Prim.Native.Nat.{◌-◌, ◌<◌}
+use native.Mathlib.Omega.{arith}
+use borrow.Author.Rules.{rules}
+use Rattle.ordering.specs.Slots.{most_slots}
+use Rattle.ordering.proofs.SlotLaws.{part_slot}
+use Rattle.slots.proofs.CountedLaws.{Counting, counting_starts, counting_below, counting_some, counting_on, counting_ends}
+use Rattle.slots.proofs.CountedLaws.{moves_tested}
+use Rattle.slots.proofs.settlement.in_words.Reads as in-words-reads
+use Rattle.slots.proofs.settlement.counted_end.Goals as goal
+use Rattle.slots.proofs.settlement.counted_end.Goals.{In-loop-left}
+
+pub loop-left-init : goal.loop-left-init
+loop-left-init c = counting_starts _ _ _ _ _
+
+-- some are left, so the place is one of the order
+below : (c : In-loop-left) → c.loop-left.end < most_slots
+below c =
+    let a = c.requires in
+    let counted = a.counted in
+    omega (arith, counting_below _ _ _ _ _ _ _ c.loop-left.invariant (omega arith) a.to counted, counted.asks.part.inside)
+
+pub offset_bounds-order-end : goal.offset_bounds-order-end
+offset_bounds-order-end c = search (rules, below c)
+
+pub bounds-order-end : goal.bounds-order-end
+bounds-order-end c = search (rules, below c)
+
+pub in_words-named-requires : goal.in_words-named-requires
+in_words-named-requires c =
+    let a = c.requires in
+    let v = c.loop-left in
+    part_slot _ _ _ _ a.counted.asks.part v.invariant.low
+    (counting_below _ _ _ _ _ _ _ v.invariant (omega arith) a.to a.counted)
+
+pub overflow_sub-left : goal.overflow_sub-left
+overflow_sub-left c =
+    let a = c.requires in
+    let v = c.loop-left in
+    counting_some _ _ _ _ _ _ _ v.invariant (omega arith) _ (moves_tested _ _ _ _ c.in_words-named.ensures) a.to a.counted
+
+pub overflow_add-end : goal.overflow_add-end
+overflow_add-end c = search (rules, below c.before.before.before)
+
+pub loop-left-smaller : goal.loop-left-smaller
+loop-left-smaller c = omega (arith, below c.before.before.before)
+
+pub loop-left-preserved : goal.loop-left-preserved
+loop-left-preserved c =
+    let v = c.loop-left in
+    counting_on _ _ _ _ _ _ _ v.invariant (omega arith) _ (moves_tested _ _ _ _ c.in_words-named.ensures)
+
+pub returns : goal.returns
+returns c = counting_ends _ _ _ _ _ _ _ c.loop-left.invariant (omega arith)

@@ -1,0 +1,22 @@
+-- `context_at` meets its contract: storing the words that are left gives them all.
+use Prim.Native.Nat.{ℕ, ◌≤◌, ◌+◌, ◌-◌, ◌*◌}
+use native.Mathlib.Omega.{arith}
+use mathlib.Core.Path.{◌≡◌, refl, sym, ap, ◌∙◌}
+use mathlib.Core.List.{[]}
+use lib.ListN.{length, length-set, replicate}
+use lib.Seq.{sets, slice, slice_empty, length-slice}
+use Rattle.lists.proofs.PlaceLaws.{sets_all}
+use Rattle.numbers.specs.Numbers.{most_panels}
+use Rattle.sets.specs.Sets.{set_of}
+use Rattle.store.specs.Requests.{context_at}
+use Rattle.store.proofs.SliceLaws.{read_on}
+use Rattle.store.proofs.requests.context_at.Given as goal
+
+abbrev pub invariant-loop-i : goal.invariant-loop-i
+invariant-loop-i l =
+    (l.i ≤ most_panels)
+    × (length l.words ≡ most_panels)
+    × (sets l.words l.i (slice (l.at + l.i) (l.at + most_panels) l.contexts) ≡ slice l.at (l.at + most_panels) l.contexts)
+
+abbrev pub decreases-loop-i : goal.decreases-loop-i
+decreases-loop-i l = most_panels - l.i

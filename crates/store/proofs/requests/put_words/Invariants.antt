@@ -1,0 +1,17 @@
+-- `put_words` meets its contract: storing the words that are left gives them all.
+use Prim.Native.Nat.{ℕ, ◌≤◌, ◌+◌, ◌-◌, ◌*◌}
+use native.Mathlib.Omega.{arith}
+use mathlib.Core.Path.{◌≡◌, sym, ap, ◌∙◌}
+use mathlib.Core.List.{[]}
+use lib.ListN.{length, drop, drop_of_length-le}
+use lib.Seq.{sets}
+use Rattle.numbers.specs.Numbers.{most_panels}
+use Rattle.store.proofs.SliceLaws.{store_on}
+use Rattle.store.proofs.requests.put_words.Given as goal
+
+abbrev pub invariant-loop-i : goal.invariant-loop-i
+invariant-loop-i l =
+    (l.i ≤ most_panels) × (sets l.contexts (l.at + l.i) (drop l.i l.read) ≡ sets l.initial.contexts l.at l.read)
+
+abbrev pub decreases-loop-i : goal.decreases-loop-i
+decreases-loop-i l = most_panels - l.i

@@ -1,0 +1,20 @@
+-- `same_words` meets its contract. The invariant: the words are the same where those from i on are.
+use Prim.Native.Nat.{ℕ, ◌+◌, ◌-◌, ◌*◌, ◌<◌}
+use native.Mathlib.Omega.{arith}
+use mathlib.Core.Path.{◌≡◌, refl, sym, ◌∙◌}
+use mathlib.Core.List.{List}
+use lib.ListN.{length, drop, take, get_or}
+use lib.Seq.{slice, length-slice, get_or-drop, get_or-take}
+use Rattle.numbers.specs.Numbers.{most_panels}
+use Rattle.sets.specs.Sets.{same_words, same_context}
+use Rattle.sets.proofs.WordLaws.{same-passed, same_stopped, same_end}
+use Rattle.store.specs.Requests.{context_at}
+use Rattle.store.proofs.requests.same_words.Given as goal
+
+abbrev pub invariant-loop-i : goal.invariant-loop-i
+invariant-loop-i l =
+    (length (there l.contexts l.slot) ≡ most_panels)
+    × (same_words (there l.contexts l.slot) l.words ≡ same_words (drop l.i (there l.contexts l.slot)) (drop l.i l.words))
+
+abbrev pub decreases-loop-i : goal.decreases-loop-i
+decreases-loop-i l = most_panels - l.i

@@ -1,0 +1,15 @@
+-- `members::join_all` meets its contract; the laws of a turn are in `UnionLaws`.
+use Prim.Native.Nat.{◌-◌}
+use native.Mathlib.Omega.{arith}
+use Rattle.numbers.specs.Numbers.{most_panels}
+use Rattle.unions.proofs.UnionLaws.{Uniting, uniting_starts, uniting_on, uniting_ends}
+use Rattle.unions.proofs.join_all.Goals as goal
+
+pub loop-i-init : goal.loop-i-init
+loop-i-init c = uniting_starts _ _ c.requires
+
+pub loop-i-preserved : goal.loop-i-preserved
+loop-i-preserved c = uniting_on _ _ _ _ c.loop-i.invariant (omega arith)
+
+pub returns : goal.returns
+returns c = uniting_ends _ _ _ _ c.loop-i.invariant (omega arith)
