@@ -1,13 +1,11 @@
 -- `sets::difference` meets its contract. The invariant: with the words from i on still to do, d leads to the whole difference.
-use Prim.Native.Nat.{◌-◌}
 use native.Mathlib.Omega.{arith}
 use borrow.Author.Rules.{rules}
-use mathlib.Core.Path.{◌≡◌, refl, sym, ap, ◌∙◌}
-use lib.ListN.{length, length-set}
+use mathlib.Core.Path.{refl, sym, ap, ◌∙◌}
+use lib.ListN.{length-set}
 use lib.Bits.{and_le_l}
-use Rattle.numbers.specs.Numbers.{most_panels}
-use Rattle.sets.specs.Sets.{set_of, lacked_words, difference}
-use Rattle.sets.proofs.WordLaws.{lacked_from, lacked-step, lacked-end}
+use Rattle.sets.specs.Sets.{set_of, difference}
+use Rattle.sets.proofs.WordLaws.{lacked-step, lacked-end}
 use Rattle.sets.proofs.difference.Goals as goal
 
 pub loop-i-init : goal.loop-i-init

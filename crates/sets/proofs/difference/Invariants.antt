@@ -1,12 +1,10 @@
 -- `sets::difference` meets its contract. The invariant: with the words from i on still to do, d leads to the whole difference.
 use Prim.Native.Nat.{◌-◌}
-use native.Mathlib.Omega.{arith}
-use mathlib.Core.Path.{◌≡◌, refl, sym, ap, ◌∙◌}
-use lib.ListN.{length, length-set}
-use lib.Bits.{and_le_l}
+use mathlib.Core.Path.{◌≡◌}
+use lib.ListN.{length}
 use Rattle.numbers.specs.Numbers.{most_panels}
-use Rattle.sets.specs.Sets.{set_of, lacked_words, difference}
-use Rattle.sets.proofs.WordLaws.{lacked_from, lacked-step, lacked-end}
+use Rattle.sets.specs.Sets.{lacked_words}
+use Rattle.sets.proofs.WordLaws.{lacked_from}
 use Rattle.sets.proofs.difference.Given as goal
 
 abbrev pub invariant-loop-i : goal.invariant-loop-i

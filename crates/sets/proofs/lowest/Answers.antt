@@ -1,12 +1,12 @@
 -- `sets::lowest` meets its contract. The invariant: the lowest number is that of the words from the panel on.
-use Prim.Native.Nat.{ℕ, ◌≤◌, ◌-◌}
+use Prim.Native.Nat.{ℕ, ◌≤◌}
 use native.Mathlib.Omega.{arith}
 use borrow.Author.Rules.{rules}
-use mathlib.Core.Path.{◌≡◌, refl, sym, ◌∙◌}
-use lib.ListN.{length, drop, get_or}
+use mathlib.Core.Path.{refl, sym, ◌∙◌}
+use lib.ListN.{get_or}
 use lib.Count.{count_trailing_zeros, trailing_le}
-use Rattle.numbers.specs.Numbers.{most_panels, most_events}
-use Rattle.sets.specs.Sets.{lowest_from, lowest}
+use Rattle.numbers.specs.Numbers.{most_events}
+use Rattle.sets.specs.Sets.{lowest}
 use Rattle.sets.proofs.WordLaws.{lowest-passed, lowest_stopped, lowest-end}
 use Rattle.sets.proofs.lowest.Goals as goal
 use Rattle.sets.proofs.lowest.Goals.{Then-word-ne0}
@@ -15,7 +15,7 @@ pub loop-panel-init : goal.loop-panel-init
 loop-panel-init c = (omega arith, search rules, refl)
 
 word_at : Then-word-ne0 → ℕ
-word_at c = get_or c.args.t1.words c.loop-panel.panel 0
+word_at c = get_or c.args.s.words c.loop-panel.panel 0
 
 zeros : (c : Then-word-ne0) → count_trailing_zeros most_events (word_at c) ≤ most_events
 zeros c = trailing_le most_events (word_at c)

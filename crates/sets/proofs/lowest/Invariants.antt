@@ -1,12 +1,9 @@
 -- `sets::lowest` meets its contract. The invariant: the lowest number is that of the words from the panel on.
-use Prim.Native.Nat.{ℕ, ◌≤◌, ◌-◌}
-use native.Mathlib.Omega.{arith}
-use mathlib.Core.Path.{◌≡◌, refl, sym, ◌∙◌}
-use lib.ListN.{length, drop, get_or}
-use lib.Count.{count_trailing_zeros, trailing_le}
-use Rattle.numbers.specs.Numbers.{most_panels, most_events}
-use Rattle.sets.specs.Sets.{lowest_from, lowest}
-use Rattle.sets.proofs.WordLaws.{lowest-passed, lowest_stopped, lowest-end}
+use Prim.Native.Nat.{◌≤◌, ◌-◌}
+use mathlib.Core.Path.{◌≡◌}
+use lib.ListN.{length, drop}
+use Rattle.numbers.specs.Numbers.{most_panels}
+use Rattle.sets.specs.Sets.{lowest_from}
 use Rattle.sets.proofs.lowest.Given as goal
 
 abbrev pub invariant-loop-panel : goal.invariant-loop-panel
