@@ -1,10 +1,9 @@
 -- `put_bytes` meets its contract: what is still to be put from byte i on makes of out what the whole run makes of it.
-use Prim.Native.Nat.{◌≤◌, ◌-◌, ◌+◌}
+use Prim.Native.Nat.{◌≤◌}
 use native.Mathlib.Nat.{add-zero}
 use native.Mathlib.Omega.{arith}
-use mathlib.Core.Path.{◌≡◌, refl, ◌∙◌}
-use lib.ListN.{length, drop, length-set, drop_of_length-le}
-use lib.Seq.{sets}
+use mathlib.Core.Path.{refl, ◌∙◌}
+use lib.ListN.{length, length-set, drop_of_length-le}
 use Rattle.text.proofs.PlacedLaws.{byte_step}
 use Rattle.text.proofs.put_bytes.Goals as goal
 
