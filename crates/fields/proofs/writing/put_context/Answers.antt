@@ -10,14 +10,6 @@ use Rattle.numbers.specs.Numbers.{most_panels}
 use Rattle.fields.specs.Widths.{word_width, context_widths, size, encode, weak_widths}
 use Rattle.fields.proofs.WidthLaws.{words_from, word_put}
 use Rattle.fields.proofs.writing.put_context.Goals as goal
-use Rattle.fields.proofs.writing.put_context.Goals.{After-slice_known-in-loop-p-1, At-loop-p, Start}
-
--- ---- earlier places of the function, from later ones
-abbrev at_loop : After-slice_known-in-loop-p-1 → At-loop-p
-at_loop c = c.before.before.before.before.before.before
-
-abbrev start : After-slice_known-in-loop-p-1 → Start
-start c = c.before.before.before.before.before.before.before.before
 
 pub loop-p-init : goal.loop-p-init
 loop-p-init c = (omega arith, omega arith, refl, refl)
@@ -42,16 +34,15 @@ loop-p-smaller c = omega arith
 
 pub loop-p-preserved : goal.loop-p-preserved
 loop-p-preserved c =
-    let put = c.put_word in
-    let l = (at_loop c).loop-p in
-    let a = (start c).args in
-    let words : length a.t2.words ≡ most_panels = search rules in (
+    let l = c.loop-p in
+    let a = c.args in
+    let words : length a.context.words ≡ most_panels = search rules in (
       omega arith,
       omega arith,
-      put.auto.0 ∙ l.inv.2,
-      ap (λ (o : List ℕ). sets o (l.to + word_width) (encode (words_from (l.p + 1)) (drop (l.p + 1) a.t2.words))) put.ensures
-          ∙ word_put l.p (omega arith) l.out a.t2.words l.to (omega arith)
-          ∙ l.inv.3,
+      c.put_word.auto.out ∙ l.invariant.2,
+      ap (λ (o : List ℕ). sets o (l.to + word_width) (encode (words_from (l.p + 1)) (drop (l.p + 1) a.context.words))) c.put_word.ensures
+          ∙ word_put l.p (omega arith) l.out a.context.words l.to (omega arith)
+          ∙ l.invariant.3,
     )
 
 pub returns : goal.returns
