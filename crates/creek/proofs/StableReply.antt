@@ -286,7 +286,7 @@ run_recorded : (n : Number) (v : ℕ) (r : Replica) (cs : List Call) → Sound r
     → Recorded n (last_response n v r cs) (run r cs).book.execution
 unfolding run last_response
 run_recorded n v r [] sound h = h
-run_recorded n v r (c ∷ cs) sound h = run_recorded n _ (step r c) cs (step_sound r c sound) (step_recorded n v r c sound h)
+run_recorded n v r (c ∷ cs) sound h = run_recorded n (cond (carries_out r c n) (answer r c).response v) (step r c) cs (step_sound r c sound) (step_recorded n v r c sound h)
 
 -- a settlement's stable reply has the response in a replay of the executed list that it leads to
 settlement_executed : (r : Replica) (n : Number) → (answer r (commit n)).mark ≡ stable_mark

@@ -1,6 +1,6 @@
 -- A request enters: what is asked before, what the state is then, and what that asks and promises over the parts of a panel that are lent.
 use Rattle.std.specs.Prelude.{ℕ, ◌+◌, ◌<◌, ◌≡◌, true, false, List, length}
-use Rattle.std.specs.Borrow.{Bor}
+use Rattle.std.specs.Borrow.{MutBor}
 use denote.Triple.Both.{Both}
 use Rattle.numbers.specs.declared.Clock.{Clock}
 use Rattle.numbers.specs.declared.Number.{Number}
@@ -57,7 +57,7 @@ pub record Lent : Type 0 where
   pub order : List ℕ
 
 -- what references to them refer to: where they are passed, at a function's entry, and at its exit
-abbrev pub lent_now : (ordered executed : Bor ℕ) (held known clocks askings contexts order : Bor (List ℕ)) → Lent
+abbrev pub lent_now : (ordered executed : MutBor ℕ) (held known clocks askings contexts order : MutBor (List ℕ)) → Lent
 lent_now ordered executed held known clocks askings contexts order = record {
   ordered = ordered.now;
   executed = executed.now;
@@ -69,11 +69,11 @@ lent_now ordered executed held known clocks askings contexts order = record {
   order = order.now;
 }
 
-abbrev pub lent_entry : (ordered executed : Both (Bor ℕ) (Bor ℕ)) (held known clocks askings contexts order : Both (Bor (List ℕ)) (Bor (List ℕ))) → Lent
+abbrev pub lent_entry : (ordered executed : Both (MutBor ℕ) (MutBor ℕ)) (held known clocks askings contexts order : Both (MutBor (List ℕ)) (MutBor (List ℕ))) → Lent
 lent_entry ordered executed held known clocks askings contexts order =
     lent_now ordered.entry executed.entry held.entry known.entry clocks.entry askings.entry contexts.entry order.entry
 
-abbrev pub lent_exit : (ordered executed : Both (Bor ℕ) (Bor ℕ)) (held known clocks askings contexts order : Both (Bor (List ℕ)) (Bor (List ℕ))) → Lent
+abbrev pub lent_exit : (ordered executed : Both (MutBor ℕ) (MutBor ℕ)) (held known clocks askings contexts order : Both (MutBor (List ℕ)) (MutBor (List ℕ))) → Lent
 lent_exit ordered executed held known clocks askings contexts order =
     lent_now ordered.exit executed.exit held.exit known.exit clocks.exit askings.exit contexts.exit order.exit
 

@@ -1,6 +1,6 @@
 -- The call by which a request is made: what is asked of it, and what the call asks and promises over the parts of a panel that it is lent.
 use Rattle.std.specs.Prelude.{ℕ, ◌≡◌, Bool, cond, List}
-use Rattle.std.specs.Borrow.{Bor}
+use Rattle.std.specs.Borrow.{MutBor}
 use denote.Triple.Both.{Both}
 use Rattle.numbers.specs.declared.Number.{Number}
 use Rattle.numbers.specs.declared.PanelNo.{PanelNo}
@@ -44,13 +44,13 @@ pub record OwnLent : Type 0 where
   pub events : ℕ
   pub clock : ℕ
 
-abbrev pub own_now : Bor (List ℕ) → Bor ℕ → Bor ℕ → OwnLent
+abbrev pub own_now : MutBor (List ℕ) → MutBor ℕ → MutBor ℕ → OwnLent
 own_now awaiting events clock = record { awaiting = awaiting.now; events = events.now; clock = clock.now }
 
-abbrev pub own_entry : Both (Bor (List ℕ)) (Bor (List ℕ)) → Both (Bor ℕ) (Bor ℕ) → Both (Bor ℕ) (Bor ℕ) → OwnLent
+abbrev pub own_entry : Both (MutBor (List ℕ)) (MutBor (List ℕ)) → Both (MutBor ℕ) (MutBor ℕ) → Both (MutBor ℕ) (MutBor ℕ) → OwnLent
 own_entry awaiting events clock = own_now awaiting.entry events.entry clock.entry
 
-abbrev pub own_exit : Both (Bor (List ℕ)) (Bor (List ℕ)) → Both (Bor ℕ) (Bor ℕ) → Both (Bor ℕ) (Bor ℕ) → OwnLent
+abbrev pub own_exit : Both (MutBor (List ℕ)) (MutBor (List ℕ)) → Both (MutBor ℕ) (MutBor ℕ) → Both (MutBor ℕ) (MutBor ℕ) → OwnLent
 own_exit awaiting events clock = own_now awaiting.exit events.exit clock.exit
 
 -- a panel of that own number, of which so many are committed, with those parts

@@ -1,7 +1,7 @@
 -- How a settlement is refused and answered, by what the state keeps, and what the call asks and promises over the parts of a panel that it
 -- is lent.
 use Rattle.std.specs.Prelude.{ℕ, ◌≡◌, Bool, not, cond, List, length, get_or, eqb}
-use Rattle.std.specs.Borrow.{Bor}
+use Rattle.std.specs.Borrow.{Bor, MutBor}
 use denote.Triple.Both.{Both}
 use Rattle.sets.specs.declared.Context.{Context}
 use Rattle.numbers.specs.declared.Number.{Number}
@@ -61,9 +61,16 @@ pub record Lent : Type 0 where
   pub responses : List ℕ
   pub settled : List ℕ
 
+-- what a reference is at a function's entry and at its exit: one that may write, and one that only reads
+abbrev LentMut : Type 0 → Type 0
+LentMut A = Both (MutBor A) (MutBor A)
+
+abbrev LentShared : Type 0 → Type 0
+LentShared A = Both (Bor A) (Bor A)
+
 -- what references to them refer to: where they are passed, at a function's entry, and at its exit
-abbrev pub lent_now : (committed executed commits : Bor ℕ)
-    (held known awaiting clocks askings contexts order stack responses settled : Bor (List ℕ)) → Lent
+abbrev pub lent_now : (committed executed commits : MutBor ℕ) (held : Bor (List ℕ)) (known awaiting : MutBor (List ℕ))
+    (clocks askings contexts : Bor (List ℕ)) (order : MutBor (List ℕ)) (stack responses : Bor (List ℕ)) (settled : MutBor (List ℕ)) → Lent
 lent_now committed executed commits held known awaiting clocks askings contexts order stack responses settled = record {
   committed = committed.now;
   executed = executed.now;
@@ -80,14 +87,16 @@ lent_now committed executed commits held known awaiting clocks askings contexts 
   settled = settled.now;
 }
 
-abbrev pub lent_entry : (committed executed commits : Both (Bor ℕ) (Bor ℕ))
-    (held known awaiting clocks askings contexts order stack responses settled : Both (Bor (List ℕ)) (Bor (List ℕ))) → Lent
+abbrev pub lent_entry : (committed executed commits : LentMut ℕ) (held : LentShared (List ℕ)) (known awaiting : LentMut (List ℕ))
+    (clocks askings contexts : LentShared (List ℕ)) (order : LentMut (List ℕ)) (stack responses : LentShared (List ℕ))
+    (settled : LentMut (List ℕ)) → Lent
 lent_entry committed executed commits held known awaiting clocks askings contexts order stack responses settled =
     lent_now committed.entry executed.entry commits.entry held.entry known.entry awaiting.entry clocks.entry
     askings.entry contexts.entry order.entry stack.entry responses.entry settled.entry
 
-abbrev pub lent_exit : (committed executed commits : Both (Bor ℕ) (Bor ℕ))
-    (held known awaiting clocks askings contexts order stack responses settled : Both (Bor (List ℕ)) (Bor (List ℕ))) → Lent
+abbrev pub lent_exit : (committed executed commits : LentMut ℕ) (held : LentShared (List ℕ)) (known awaiting : LentMut (List ℕ))
+    (clocks askings contexts : LentShared (List ℕ)) (order : LentMut (List ℕ)) (stack responses : LentShared (List ℕ))
+    (settled : LentMut (List ℕ)) → Lent
 lent_exit committed executed commits held known awaiting clocks askings contexts order stack responses settled =
     lent_now committed.exit executed.exit commits.exit held.exit known.exit awaiting.exit clocks.exit
     askings.exit contexts.exit order.exit stack.exit responses.exit settled.exit

@@ -1,15 +1,18 @@
 -- What an undo and an execution are lent of a panel, as references have it, and a panel with it in the place of its own.
 use Rattle.std.specs.Prelude.{ℕ, List}
-use Rattle.std.specs.Borrow.{Bor}
+use Rattle.std.specs.Borrow.{Bor, MutBor}
 use denote.Triple.Both.{Both}
 use Rattle.counters.specs.Counted.{undos_counted, executions_counted}
 use Rattle.replica.specs.State.{State}
 use Rattle.replica.specs.internal.Cores.{Core, packed, core_in, with_board}
 use Rattle.replica.specs.internal.Parts.{with_counters}
 
--- what a reference refers to at a function's entry and at its exit
-abbrev Lent : Type 0 → Type 0
-Lent A = Both (Bor A) (Bor A)
+-- what a reference refers to at a function's entry and at its exit: one that may write, and one that only reads
+abbrev LentMut : Type 0 → Type 0
+LentMut A = Both (MutBor A) (MutBor A)
+
+abbrev LentShared : Type 0 → Type 0
+LentShared A = Both (Bor A) (Bor A)
 
 -- ---- undo
 
@@ -33,15 +36,17 @@ undo_with executed stacked askings stack registers saved = record {
 }
 
 -- what references to them refer to: where they are passed, at the entry and at the exit
-abbrev pub undo_now : ℕ → Bor ℕ → (askings stack registers saved : Bor (List ℕ)) → UndoLent
+abbrev pub undo_now : ℕ → MutBor ℕ → (askings stack : Bor (List ℕ)) (registers : MutBor (List ℕ)) (saved : Bor (List ℕ)) → UndoLent
 undo_now executed stacked askings stack registers saved =
     undo_with executed stacked.now askings.now stack.now registers.now saved.now
 
-abbrev pub undo_entry : ℕ → Lent ℕ → (askings stack registers saved : Lent (List ℕ)) → UndoLent
+abbrev pub undo_entry : ℕ → LentMut ℕ → (askings stack : LentShared (List ℕ)) (registers : LentMut (List ℕ)) (saved : LentShared (List ℕ))
+    → UndoLent
 undo_entry executed stacked askings stack registers saved =
     undo_now executed stacked.entry askings.entry stack.entry registers.entry saved.entry
 
-abbrev pub undo_exit : ℕ → Lent ℕ → (askings stack registers saved : Lent (List ℕ)) → UndoLent
+abbrev pub undo_exit : ℕ → LentMut ℕ → (askings stack : LentShared (List ℕ)) (registers : LentMut (List ℕ)) (saved : LentShared (List ℕ))
+    → UndoLent
 undo_exit executed stacked askings stack registers saved =
     undo_now executed stacked.exit askings.exit stack.exit registers.exit saved.exit
 
@@ -88,20 +93,20 @@ execute_with committed ordered executed stacked awaiting askings order stack reg
   responses = responses;
 }
 
-abbrev pub execute_now : ℕ → ℕ → (executed stacked : Bor ℕ)
-    (awaiting askings order stack registers saved responses : Bor (List ℕ)) → ExecuteLent
+abbrev pub execute_now : ℕ → ℕ → (executed stacked : MutBor ℕ) (awaiting : MutBor (List ℕ))
+    (askings order : Bor (List ℕ)) (stack registers saved responses : MutBor (List ℕ)) → ExecuteLent
 execute_now committed ordered executed stacked awaiting askings order stack registers saved responses =
     execute_with committed ordered executed.now stacked.now awaiting.now askings.now order.now stack.now
     registers.now saved.now responses.now
 
-abbrev pub execute_entry : ℕ → ℕ → (executed stacked : Lent ℕ)
-    (awaiting askings order stack registers saved responses : Lent (List ℕ)) → ExecuteLent
+abbrev pub execute_entry : ℕ → ℕ → (executed stacked : LentMut ℕ) (awaiting : LentMut (List ℕ))
+    (askings order : LentShared (List ℕ)) (stack registers saved responses : LentMut (List ℕ)) → ExecuteLent
 execute_entry committed ordered executed stacked awaiting askings order stack registers saved responses =
     execute_now committed ordered executed.entry stacked.entry awaiting.entry askings.entry order.entry stack.entry
     registers.entry saved.entry responses.entry
 
-abbrev pub execute_exit : ℕ → ℕ → (executed stacked : Lent ℕ)
-    (awaiting askings order stack registers saved responses : Lent (List ℕ)) → ExecuteLent
+abbrev pub execute_exit : ℕ → ℕ → (executed stacked : LentMut ℕ) (awaiting : LentMut (List ℕ))
+    (askings order : LentShared (List ℕ)) (stack registers saved responses : LentMut (List ℕ)) → ExecuteLent
 execute_exit committed ordered executed stacked awaiting askings order stack registers saved responses =
     execute_now committed ordered executed.exit stacked.exit awaiting.exit askings.exit order.exit stack.exit
     registers.exit saved.exit responses.exit

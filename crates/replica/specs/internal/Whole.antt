@@ -1,7 +1,7 @@
 -- A panel whose counts, counters and arrays are all lent: what the references to them refer to, as one memory. For callers that hold a
 -- panel in locals.
 use Rattle.std.specs.Prelude.{ℕ, List}
-use Rattle.std.specs.Borrow.{Bor}
+use Rattle.std.specs.Borrow.{MutBor}
 use denote.Triple.Both.{Both}
 use Rattle.numbers.specs.declared.PanelNo.{PanelNo}
 use Rattle.numbers.specs.Numbers.{clock_reading}
@@ -10,17 +10,17 @@ use Rattle.replica.specs.State.{State}
 
 -- the numbers and words that are lent, at one moment
 abbrev pub NumberNow : Type 0
-NumberNow = Bor ℕ
+NumberNow = MutBor ℕ
 
 abbrev pub WordsNow : Type 0
-WordsNow = Bor (List ℕ)
+WordsNow = MutBor (List ℕ)
 
 -- the same from a function's entry to its exit
 abbrev pub NumberLent : Type 0
-NumberLent = Both (Bor ℕ) (Bor ℕ)
+NumberLent = Both (MutBor ℕ) (MutBor ℕ)
 
 abbrev pub WordsLent : Type 0
-WordsLent = Both (Bor (List ℕ)) (Bor (List ℕ))
+WordsLent = Both (MutBor (List ℕ)) (MutBor (List ℕ))
 
 -- the memory of a panel of that shop and own number, with those counts, counters and arrays
 abbrev pub whole : ℕ → PanelNo → (committed ordered executed stacked commits clock events undos executions : ℕ)
