@@ -3,9 +3,9 @@
 ghost use Rattle.std.specs.Prelude.{◌+◌, ◌*◌, ◌≤◌, ◌<◌, length};
 ghost use Rattle.encoding.specs.Encoding.{answer_size, response_width};
 
+use super::STANDARD_OUTPUT;
 use encoding::answers::ANSWER_SIZE;
 use encoding::calls::{CALL_SIZE, CALLS_AT};
-use libc::STDOUT_FILENO;
 use wire::layout::LONGEST_MESSAGE;
 
 // The most calls in 65,536 bytes, which is the longest list that is read.
@@ -43,7 +43,7 @@ fn print_answers(answers: &[u8], count: usize)
 fn print_answer(answers: &[u8], at: usize)
     requires { at + answer_size ≤ length answers.now }
 {
-    io::print_decimal(STDOUT_FILENO, wide(answers[at]));
+    io::print_decimal(STANDARD_OUTPUT, wide(answers[at]));
     print_bytes(answers, at + 1, RESPONSE_AT - 1);
     print_field(response_at(answers, at + RESPONSE_AT));
     print_spread(answers, at + (ANSWER_SIZE - LONGEST_MESSAGE));
@@ -83,14 +83,14 @@ fn print_bytes(bytes: &[u8], at: usize, count: usize)
 // Prints a number with a space in front.
 fn print_field(n: u64) {
     let space = [b' '];
-    io::write_all(STDOUT_FILENO, &space);
-    io::print_decimal(STDOUT_FILENO, n);
+    io::write_all(STANDARD_OUTPUT, &space);
+    io::print_decimal(STANDARD_OUTPUT, n);
 }
 
 // Ends a printed line.
 pub(crate) fn end_line() {
     let end = [b'\n'];
-    io::write_all(STDOUT_FILENO, &end);
+    io::write_all(STANDARD_OUTPUT, &end);
 }
 
 fn wide(byte: u8) -> u64

@@ -10,8 +10,10 @@ mod answered;
 ghost use Rattle.std.specs.Prelude.{◌≡◌, ◌*◌, length};
 ghost use Rattle.printed.specs.Printout.{most_input};
 
-use libc::STDOUT_FILENO;
 use sheet::MOST_INPUT;
+
+// The file descriptor of standard output.
+const STANDARD_OUTPUT: i32 = 1;
 
 // A run ends after so many cases, where standard input does not end it sooner.
 const MOST_CASES: usize = 10000;
@@ -36,7 +38,7 @@ fn print_case() -> bool {
     if named == 0 {
         return false;
     }
-    io::write_all(STDOUT_FILENO, &name[..named]);
+    io::write_all(STANDARD_OUTPUT, &name[..named]);
     answered::end_line();
     if next_sort() == CALLS {
         print_list();

@@ -2,14 +2,18 @@
 #![tactic(auto)]
 
 use encoding::answers::ANSWER_SIZE;
-use libc::{STDIN_FILENO, STDOUT_FILENO};
+
+// The file descriptors of standard input and standard output.
+const STANDARD_INPUT: i32 = 0;
+
+const STANDARD_OUTPUT: i32 = 1;
 
 // How many calls the list on standard input has.
 const CALLS: usize = 6;
 
 fn main() {
     let mut list = io::buffer();
-    let n = io::read_full(STDIN_FILENO, &mut list);
+    let n = io::read_full(STANDARD_INPUT, &mut list);
     print_idle(answers_to(&list[..n]));
     print(cut_short());
     print(bad_length());
@@ -49,7 +53,7 @@ fn bad_length() -> u8 {
 
 // Prints a number on a line of its own.
 fn print(n: u8) {
-    io::print_decimal(STDOUT_FILENO, n as u64);
+    io::print_decimal(STANDARD_OUTPUT, n as u64);
     let end = [b'\n'];
-    io::write_all(STDOUT_FILENO, &end);
+    io::write_all(STANDARD_OUTPUT, &end);
 }

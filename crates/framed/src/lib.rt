@@ -4,7 +4,8 @@
 ghost use Rattle.std.specs.Prelude.{◌<◌};
 ghost use Rattle.io.specs.Counts.{IsPrefixLen};
 
-use libc::STDIN_FILENO;
+// The file descriptor of standard input.
+const STANDARD_INPUT: i32 = 0;
 
 // Reads the next part to the front of the lent bytes and returns how many of its bytes were there: fewer than its length where standard
 // input ends inside it, and 0, with none of them read, where the lent bytes have no room for it.
@@ -15,13 +16,13 @@ pub fn read_part(part: &mut [u8]) -> usize
     if part.len() < length {
         return 0;
     }
-    io::read_full(STDIN_FILENO, &mut part[..length])
+    io::read_full(STANDARD_INPUT, &mut part[..length])
 }
 
 // Reads the three bytes of the next part's length; those that standard input does not have are 0.
 fn next_length() -> usize {
     let mut head = [0u8; 3];
-    io::read_full(STDIN_FILENO, &mut head);
+    io::read_full(STANDARD_INPUT, &mut head);
     wide(head[0]) + 256 * (wide(head[1]) + 256 * wide(head[2]))
 }
 
