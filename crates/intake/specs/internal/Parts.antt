@@ -1,6 +1,6 @@
 -- What taking in a message asks and promises over the parts of a panel that it is lent.
 use Rattle.std.specs.Prelude.{ℕ, List}
-use Rattle.std.specs.Borrow.{Bor}
+use Rattle.std.specs.Borrow.{Bor, MutBor}
 use denote.Triple.Both.{Both}
 use Rattle.numbers.specs.declared.PanelNo.{PanelNo}
 use Rattle.numbers.specs.Numbers.{no_number}
@@ -33,8 +33,9 @@ pub record Lent : Type 0 where
   pub settled : List ℕ
 
 -- what references to them refer to: where they are passed, at a function's entry, and at its exit
-abbrev pub lent_now : (committed ordered executed commits : Bor ℕ)
-    (held known awaiting clocks askings contexts order stack responses settled : Bor (List ℕ)) → Lent
+abbrev pub lent_now : (committed ordered executed commits : MutBor ℕ)
+    (held known awaiting clocks askings contexts order : MutBor (List ℕ))
+    (stack responses : Bor (List ℕ)) (settled : MutBor (List ℕ)) → Lent
 lent_now committed ordered executed commits held known awaiting clocks askings contexts order stack responses settled = record {
   committed = committed.now;
   ordered = ordered.now;
@@ -52,14 +53,16 @@ lent_now committed ordered executed commits held known awaiting clocks askings c
   settled = settled.now;
 }
 
-abbrev pub lent_entry : (committed ordered executed commits : Both (Bor ℕ) (Bor ℕ))
-    (held known awaiting clocks askings contexts order stack responses settled : Both (Bor (List ℕ)) (Bor (List ℕ))) → Lent
+abbrev pub lent_entry : (committed ordered executed commits : Both (MutBor ℕ) (MutBor ℕ))
+    (held known awaiting clocks askings contexts order : Both (MutBor (List ℕ)) (MutBor (List ℕ)))
+    (stack responses : Both (Bor (List ℕ)) (Bor (List ℕ))) (settled : Both (MutBor (List ℕ)) (MutBor (List ℕ))) → Lent
 lent_entry committed ordered executed commits held known awaiting clocks askings contexts order stack responses settled =
     lent_now committed.entry ordered.entry executed.entry commits.entry held.entry known.entry awaiting.entry
     clocks.entry askings.entry contexts.entry order.entry stack.entry responses.entry settled.entry
 
-abbrev pub lent_exit : (committed ordered executed commits : Both (Bor ℕ) (Bor ℕ))
-    (held known awaiting clocks askings contexts order stack responses settled : Both (Bor (List ℕ)) (Bor (List ℕ))) → Lent
+abbrev pub lent_exit : (committed ordered executed commits : Both (MutBor ℕ) (MutBor ℕ))
+    (held known awaiting clocks askings contexts order : Both (MutBor (List ℕ)) (MutBor (List ℕ)))
+    (stack responses : Both (Bor (List ℕ)) (Bor (List ℕ))) (settled : Both (MutBor (List ℕ)) (MutBor (List ℕ))) → Lent
 lent_exit committed ordered executed commits held known awaiting clocks askings contexts order stack responses settled =
     lent_now committed.exit ordered.exit executed.exit commits.exit held.exit known.exit awaiting.exit clocks.exit
     askings.exit contexts.exit order.exit stack.exit responses.exit settled.exit
