@@ -2,11 +2,6 @@
 use Rattle.std.proofs.Common.{sym, ◌∙◌, rules}
 use Rattle.effects.proofs.RegisterLaws.{executed_claim_all, executed_no_claim_all}
 use Rattle.executing.proofs.execute_claim_all.Goals as goal
-use Rattle.executing.proofs.execute_claim_all.Goals.{After-set_all, Start}
-
--- ---- earlier places of the function, from later ones
-abbrev start : After-set_all → Start
-start c = c.before.before.before.before.before
 
 pub returns-then-held-ne0 : goal.returns-then-held-ne0
 returns-then-held-ne0 c =
@@ -16,6 +11,6 @@ returns-then-held-ne0 c =
 
 pub returns : goal.returns
 returns c =
-    let claim = (start c).requires in
+    let claim = c.requires in
     let found = c.lowest_held-held.ensures in
     rw c.set_all.ensures (executed_claim_all _ _ claim.on claim.code (sym found ∙ c.if-held-ne0.false))

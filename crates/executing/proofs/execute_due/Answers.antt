@@ -1,6 +1,5 @@
 -- `execute_due` meets its contract: nothing off the board, else what the two functions for operations on the board do.
 use Rattle.std.proofs.Common.{◌≡◌, false, sym, ◌∙◌, rules}
-use borrow.Author.Tests.{not-true, not-false}
 use Rattle.effects.specs.Effect.{off_board}
 use Rattle.effects.proofs.RegisterLaws.{executed_off}
 use Rattle.executing.proofs.execute_due.Goals as goal
@@ -14,10 +13,8 @@ returns-then-off_board c = executed_off _ _ (sym c.off_board.ensures ∙ c.if-of
 
 pub execute_other-requires : goal.execute_other-requires
 execute_other-requires c =
-    let tested = c.before.before in
-    record { on = on tested.before; other = sym tested.on_one_register.ensures ∙ not-true _ c.if-not-on_one_register.true }
+    record { on = on (goal.at.execute_other-requires c).Else-off_board; other = sym c.on_one_register.ensures ∙ c.if-not-on_one_register.true }
 
 pub execute_one-requires : goal.execute_one-requires
 execute_one-requires c =
-    let tested = c.before.before in
-    record { on = on tested.before; one = sym tested.on_one_register.ensures ∙ not-false _ c.if-not-on_one_register.false }
+    record { on = on (goal.at.execute_one-requires c).Else-off_board; one = sym c.on_one_register.ensures ∙ c.if-not-on_one_register.false }

@@ -3,13 +3,9 @@ use Rattle.std.proofs.Common.{◌≡◌, arith, rules}
 use Rattle.effects.specs.Effect.{amount_moved, moved}
 use Rattle.effects.proofs.RegisterLaws.{on_board_is, executed-move}
 use Rattle.executing.proofs.execute_move.Goals as goal
-use Rattle.executing.proofs.execute_move.Goals.{After-lesser-amount, Start}
+use Rattle.executing.proofs.execute_move.Goals.{After-lesser-amount}
 
--- the function's entry, from behind both calls of `lesser`
-abbrev entry : After-lesser-amount → Start
-entry c = c.before.before.before.before.before.before.before
-
-amount_is : (c : After-lesser-amount) → c.lesser-amount.result ≡ amount_moved (entry c).args.o (entry c).args.registers.now
+amount_is : (c : After-lesser-amount) → c.lesser-amount.result ≡ amount_moved c.args.o c.args.registers.now
 unfolding amount_moved
 amount_is c = omega (arith, c.lesser-amount.ensures, c.lesser-most.ensures, c.room_left-room.ensures)
 
@@ -20,11 +16,11 @@ pub bounds-registers-q : goal.bounds-registers-q
 bounds-registers-q c = omega (arith, on_board_is _ c.requires.on)
 
 pub bounds-registers-r-2 : goal.bounds-registers-r-2
-bounds-registers-r-2 c = omega (arith, on_board_is _ (entry c).requires.on)
+bounds-registers-r-2 c = omega (arith, on_board_is _ c.requires.on)
 
 pub bounds-registers-q-2 : goal.bounds-registers-q-2
-bounds-registers-q-2 c = omega (arith, on_board_is _ (entry c).requires.on)
+bounds-registers-q-2 c = omega (arith, on_board_is _ c.requires.on)
 
 pub returns : goal.returns
 unfolding moved
-returns c = rw (amount_is c) (executed-move _ _ (entry c).requires.on (entry c).requires.code)
+returns c = rw (amount_is c) (executed-move _ _ c.requires.on c.requires.code)

@@ -11,6 +11,4 @@ pub bounds-registers-r-2 : goal.bounds-registers-r-2
 bounds-registers-r-2 c = omega (arith, on_board_is _ c.requires.on)
 
 pub returns : goal.returns
-returns c =
-    let stored = c.before in
-    rw (c.chosen.ensures, stored.value_after-after.ensures) (executed-one _ _ stored.requires)
+returns c = rw (c.chosen.ensures, c.value_after-after.ensures) (executed-one _ _ c.requires)

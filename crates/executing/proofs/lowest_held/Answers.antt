@@ -20,18 +20,18 @@ pub offset_bounds-registers-k : goal.offset_bounds-registers-k
 offset_bounds-registers-k c = omega (arith, turn c)
 
 pub bounds-registers-k : goal.bounds-registers-k
-bounds-registers-k c = omega (arith, turn c)
+bounds-registers-k c = omega (arith, turn (goal.at.bounds-registers-k c).In-loop-held)
 
 pub overflow_add-k : goal.overflow_add-k
-overflow_add-k c = omega (arith, turn c.before.before)
+overflow_add-k c = omega (arith, turn (goal.at.overflow_add-k c).In-loop-held)
 
 pub loop-held-smaller : goal.loop-held-smaller
-loop-held-smaller c = omega (arith, turn c.before.before)
+loop-held-smaller c = omega (arith, turn (goal.at.loop-held-smaller c).In-loop-held)
 
 pub loop-held-preserved : goal.loop-held-preserved
 loop-held-preserved c =
     let v = c.loop-held in
-    let tests = turn c.before.before in
+    let tests = turn (goal.at.loop-held-preserved c).In-loop-held in
     (v.invariant.0, sym (held_on _ v.k _ v.held tests.0 tests.1) ∙ v.invariant.1)
 
 pub returns : goal.returns

@@ -23,11 +23,11 @@ pub mask-mask-requires : goal.mask-mask-requires
 mask-mask-requires c = good c
 
 pub bounds-words-panel : goal.bounds-words-panel
-bounds-words-panel c = omega (arith, good c.before.before.before)
+bounds-words-panel c = omega (arith, good (goal.at.bounds-words-panel c).Else-bad)
 
 pub bounds-words-panel-2 : goal.bounds-words-panel-2
-bounds-words-panel-2 c = omega (arith, good c.before.before.before)
+bounds-words-panel-2 c = omega (arith, good (goal.at.bounds-words-panel-2 c).Else-bad)
 
 pub returns : goal.returns
 unfolding join
-returns c = rw (not_bad c.before.before.before, c.mask-mask.ensures)
+returns c = rw (not_bad (goal.at.returns c).Else-bad, c.mask-mask.ensures)

@@ -2,7 +2,6 @@
 use native.Mathlib.Omega.{arith}
 use mathlib.Core.Path.{◌≡◌, sym, ◌∙◌}
 use mathlib.Core.Bool.{true}
-use borrow.Author.Tests.{not-true, not-false}
 use Rattle.numbers.specs.Numbers.{most_panels}
 use Rattle.numbers.specs.internal.Slots.{GoodNumber}
 use Rattle.sets.specs.Sets.{set_of, member, leave}
@@ -13,10 +12,10 @@ use Rattle.members.proofs.leave.Goals.{Else-not-member}
 
 pub returns-then-not-member : goal.returns-then-not-member
 unfolding leave
-returns-then-not-member c = rw (sym c.member.ensures ∙ not-true _ c.if-not-member.true)
+returns-then-not-member c = rw (sym c.member.ensures ∙ c.if-not-member.true)
 
 is_member : (c : Else-not-member) → member (set_of c.args.words.now) c.args.n ≡ true
-is_member c = sym c.member.ensures ∙ not-false _ c.if-not-member.false
+is_member c = sym c.member.ensures ∙ c.if-not-member.false
 
 good : (c : Else-not-member) → GoodNumber most_panels c.args.n
 good c = good-number _ _ (member_good _ _ (is_member c))
@@ -25,11 +24,11 @@ pub mask-mask-requires : goal.mask-mask-requires
 mask-mask-requires c = good c
 
 pub bounds-words-panel : goal.bounds-words-panel
-bounds-words-panel c = omega (arith, good c.before.before.before)
+bounds-words-panel c = omega (arith, good (goal.at.bounds-words-panel c).Else-not-member)
 
 pub bounds-words-panel-2 : goal.bounds-words-panel-2
-bounds-words-panel-2 c = omega (arith, good c.before.before.before)
+bounds-words-panel-2 c = omega (arith, good (goal.at.bounds-words-panel-2 c).Else-not-member)
 
 pub returns : goal.returns
 unfolding leave
-returns c = rw (is_member c.before.before.before, c.mask-mask.ensures)
+returns c = rw (is_member (goal.at.returns c).Else-not-member, c.mask-mask.ensures)

@@ -20,14 +20,14 @@ good : (c : Else-bad) → GoodNumber most_panels c.args.n
 good c = good-number _ _ (not_bad c)
 
 pub overflow_sub-bit : goal.overflow_sub-bit
-overflow_sub-bit c = omega (arith, good c.before.before)
+overflow_sub-bit c = omega (arith, good (goal.at.overflow_sub-bit c).Else-bad)
 
 pub bounds-words-panel : goal.bounds-words-panel
-bounds-words-panel c = omega (arith, good c.before.before.before)
+bounds-words-panel c = omega (arith, good (goal.at.bounds-words-panel c).Else-bad)
 
 pub overflow_shr-result : goal.overflow_shr-result
-overflow_shr-result c = omega (arith, good c.before.before.before.before)
+overflow_shr-result c = omega (arith, good (goal.at.overflow_shr-result c).Else-bad)
 
 pub returns : goal.returns
 unfolding member bit
-returns c = rw (not_bad c.before.before.before.before)
+returns c = rw (not_bad (goal.at.returns c).Else-bad)

@@ -16,11 +16,11 @@ unfolding saved_of
 returns-then-off_board c = simp (sym c.off_board.ensures ∙ c.if-off_board.true)
 
 pub bounds-registers-o : goal.bounds-registers-o
-bounds-registers-o c = omega (arith, on_board_is _ (on c.before.before))
+bounds-registers-o c = omega (arith, on_board_is _ (on (goal.at.bounds-registers-o c).Else-off_board))
 
 pub bounds-registers-o-2 : goal.bounds-registers-o-2
-bounds-registers-o-2 c = omega (arith, on_board_is _ (on c.before.before.before.before))
+bounds-registers-o-2 c = omega (arith, on_board_is _ (on (goal.at.bounds-registers-o-2 c).Else-off_board))
 
 pub returns : goal.returns
 unfolding saved_of
-returns c = simp (on c.before.before.before.before.before)
+returns c = simp (on (goal.at.returns c).Else-off_board)

@@ -16,19 +16,17 @@ loop-i-init c = (omega arith, refl)
 
 pub overflow_add-many : goal.overflow_add-many
 overflow_add-many c =
-    let v = c.before.before.before.before.before in
-    let words = v.args.words.now in
-    let others = v.args.others.now in
-    let most = tally_most (v.loop-i.i * most_events) (named_beside words others) in
-    let few = lacked_most (get_or words v.loop-i.i 0) (get_or others v.loop-i.i 0) in
-    record { fits = omega (arith, c.lacked_bits-lacked.ensures, few, v.loop-i.invariant.1, most) }
+    let words = c.args.words.now in
+    let others = c.args.others.now in
+    let most = tally_most (c.loop-i.i * most_events) (named_beside words others) in
+    let few = lacked_most (get_or words c.loop-i.i 0) (get_or others c.loop-i.i 0) in
+    record { fits = omega (arith, c.lacked_bits-lacked.ensures, few, c.loop-i.invariant.1, most) }
 
 pub loop-i-preserved : goal.loop-i-preserved
 loop-i-preserved c =
-    let v = c.before.before.before.before.before in
-    let words = v.args.words.now in
-    let others = v.args.others.now in
-    (omega arith, omega (arith, v.loop-i.invariant.1, c.lacked_bits-lacked.ensures, lacked-next words others v.loop-i.i))
+    let words = c.args.words.now in
+    let others = c.args.others.now in
+    (omega arith, omega (arith, c.loop-i.invariant.1, c.lacked_bits-lacked.ensures, lacked-next words others c.loop-i.i))
 
 pub returns : goal.returns
 unfolding lacked_count

@@ -11,7 +11,7 @@ use Rattle.lists.specs.Lists.{common_start}
 use Rattle.lists.proofs.BoolLaws.{both_true}
 use Rattle.lists.proofs.StepLaws.{common_on, common_stops, common_end_first, common_end_second}
 use Rattle.ordering.proofs.common.common_start.Goals as goal
-use Rattle.ordering.proofs.common.common_start.Goals.{Else-x-y, In-loop-place, Start, Then-x-y}
+use Rattle.ordering.proofs.common.common_start.Goals.{In-loop-place}
 
 -- where one of the lists has no element at place p, nothing is common from there on
 module _ (xs ys : List ℕ) (n m p : ℕ) (first : p ≤ n) (second : p ≤ m) where
@@ -26,13 +26,6 @@ module _ (xs ys : List ℕ) (n m p : ℕ) (first : p ≤ n) (second : p ≤ m) w
           let end : p ≡ m = omega (arith, ltb-false p m (ap (λ b. b && ltb p m) (sym f) ∙ e)) in
           rw end (common_end_second eqb (slice m n xs) ys m)
 
--- ---- earlier places of the function, from later ones
-abbrev start_from_else_1 : Else-x-y → Start
-start_from_else_1 c = c.before.before.before.before.before.before
-
-abbrev start_from_then_1 : Then-x-y → Start
-start_from_then_1 c = c.before.before.before.before.before.before
-
 pub loop-place-init : goal.loop-place-init
 loop-place-init c = (omega arith, omega arith, refl)
 
@@ -42,19 +35,19 @@ both_have : (c : In-loop-place)
 both_have c = let tests = both_true _ _ c.loop-place-test.true in (ltb-true _ _ tests.0, ltb-true _ _ tests.1)
 
 pub bounds-xs-place : goal.bounds-xs-place
-bounds-xs-place c = omega (arith, both_have c)
+bounds-xs-place c = omega (arith, both_have (goal.at.bounds-xs-place c).In-loop-place)
 
 pub bounds-ys-place : goal.bounds-ys-place
-bounds-ys-place c = omega (arith, both_have c.before.before)
+bounds-ys-place c = omega (arith, both_have (goal.at.bounds-ys-place c).In-loop-place)
 
 pub loop-place-smaller : goal.loop-place-smaller
-loop-place-smaller c = omega (arith, both_have c.before.before.before.before)
+loop-place-smaller c = omega (arith, both_have (goal.at.loop-place-smaller c).In-loop-place)
 
 pub loop-place-preserved : goal.loop-place-preserved
 loop-place-preserved c =
-    let a = (start_from_else_1 c).args in
+    let a = c.args in
     let v = c.loop-place in
-    let have = both_have c.before.before.before.before in (
+    let have = both_have (goal.at.loop-place-preserved c).In-loop-place in (
       omega (arith, have),
       omega (arith, have),
       omega (
@@ -67,9 +60,9 @@ loop-place-preserved c =
 
 pub returns-then-x-y : goal.returns-then-x-y
 returns-then-x-y c =
-    let a = (start_from_then_1 c).args in
+    let a = c.args in
     let v = c.loop-place in
-    let have = both_have c.before.before.before.before in
+    let have = both_have (goal.at.returns-then-x-y c).In-loop-place in
     omega (
       arith,
       v.invariant.2,

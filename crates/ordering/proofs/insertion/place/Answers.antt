@@ -8,14 +8,6 @@ use Rattle.ordering.specs.Slots.{comes_before}
 use Rattle.ordering.proofs.SlotLaws.{comparison_asked}
 use Rattle.ordering.proofs.InsertionLaws.{place_behind_last}
 use Rattle.ordering.proofs.insertion.place.Goals as goal
-use Rattle.ordering.proofs.insertion.place.Goals.{Else-comes_before, Start, Then-comes_before}
-
--- ---- earlier places of the function, from later ones
-abbrev start_from_passed : Then-comes_before → Start
-start_from_passed c = c.before.before.before.before.before.before.before
-
-abbrev start_from_failed : Else-comes_before → Start
-start_from_failed c = c.before.before.before.before.before.before.before
 
 -- the place that a turn looks at
 abbrev middle : ℕ → ℕ → ℕ
@@ -27,8 +19,7 @@ comes_before-requires c =
 
 pub returns-then-not-comes_before : goal.returns-then-not-comes_before
 returns-then-not-comes_before c =
-    let more = c.before.before.before.before in
-    place_behind_last _ _ _ _ _ _ more.requires more.if-from-to.true (sym (ap not c.comes_before.ensures) ∙ c.if-not-comes_before.true)
+    place_behind_last _ _ _ _ _ _ c.requires c.if-from-to.true (ap not (sym c.comes_before.ensures ∙ c.if-not-comes_before.true))
 
 pub loop-low-init : goal.loop-low-init
 loop-low-init c = halving_starts _ _ _ _ _ c.requires.order.part.rising
@@ -41,16 +32,14 @@ comes_before-requires-in-loop-low c =
 
 pub loop-low-preserved-then-comes_before : goal.loop-low-preserved-then-comes_before
 loop-low-preserved-then-comes_before c =
-    let a = start_from_passed c in
     let v = c.loop-low in
-    halving-passed _ _ _ _ _ a.requires.split _ _ v.invariant (middle v.low v.high) (omega arith) (omega arith)
+    halving-passed _ _ _ _ _ c.requires.split _ _ v.invariant (middle v.low v.high) (omega arith) (omega arith)
     (sym c.comes_before-in-loop-low.ensures ∙ c.if-comes_before.true)
 
 pub loop-low-preserved : goal.loop-low-preserved
 loop-low-preserved c =
-    let a = start_from_failed c in
     let v = c.loop-low in
-    halving_failed _ _ _ _ _ a.requires.split _ _ v.invariant (middle v.low v.high) (omega arith) (omega arith)
+    halving_failed _ _ _ _ _ c.requires.split _ _ v.invariant (middle v.low v.high) (omega arith) (omega arith)
     (sym c.comes_before-in-loop-low.ensures ∙ c.if-comes_before.false)
 
 pub returns : goal.returns

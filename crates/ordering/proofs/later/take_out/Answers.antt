@@ -20,19 +20,19 @@ slot_at : (c : After-t-1) → IsSlot (get_or c.args.order.now c.loop-at.at 0)
 slot_at c = part_slot _ _ _ _ c.requires (omega arith) (omega arith)
 
 pub overflow_cast-panel : goal.overflow_cast-panel
-overflow_cast-panel c = search (rules, slot_at c)
+overflow_cast-panel c = search (rules, slot_at (goal.at.overflow_cast-panel c).After-t-1)
 
 pub offset_bounds-words-panel : goal.offset_bounds-words-panel
-offset_bounds-words-panel c = search (rules, slot_at c)
+offset_bounds-words-panel c = search (rules, slot_at (goal.at.offset_bounds-words-panel c).After-t-1)
 
 pub bounds-words-panel : goal.bounds-words-panel
-bounds-words-panel c = search (rules, slot_at c)
+bounds-words-panel c = search (rules, slot_at (goal.at.bounds-words-panel c).After-t-1)
 
 pub offset_bounds-words-panel-in-loop-at : goal.offset_bounds-words-panel-in-loop-at
-offset_bounds-words-panel-in-loop-at c = search (rules, slot_at c.before.before)
+offset_bounds-words-panel-in-loop-at c = search (rules, slot_at (goal.at.offset_bounds-words-panel-in-loop-at c).After-t-1)
 
 pub bounds-words-panel-in-loop-at : goal.bounds-words-panel-in-loop-at
-bounds-words-panel-in-loop-at c = search (rules, slot_at c.before.before)
+bounds-words-panel-in-loop-at c = search (rules, slot_at (goal.at.bounds-words-panel-in-loop-at c).After-t-1)
 
 pub loop-at-preserved : goal.loop-at-preserved
 loop-at-preserved c =
@@ -41,7 +41,7 @@ loop-at-preserved c =
       omega arith,
       omega arith,
       ap (λ (s : Context). without s (slice (v.at + 1) c.args.to order))
-          (taken_out v.words (get_or order v.at 0) (slot_at c.before.before))
+          (taken_out v.words (get_or order v.at 0) (slot_at (goal.at.loop-at-preserved c).After-t-1))
           ∙ sym (without-next order (set_of v.words) v.at c.args.to (omega arith) (omega (arith, c.requires.long, c.requires.inside)))
           ∙ v.invariant.2,
     )
