@@ -16,12 +16,11 @@ low : (c : After-place-end) → c.args.from < c.place-end.result
 low c = front_behind _ _ _ _ _ c.requires _ c.place-end.ensures
 
 pub overflow_sub-end : goal.overflow_sub-end
-overflow_sub-end c = omega (arith, low c.before.before)
+overflow_sub-end c = omega (arith, low (goal.at.overflow_sub-end c).After-place-end)
 
 pub insert_at-requires : goal.insert_at-requires
 insert_at-requires c = front_insertion_asks _ _ _ _ _ c.requires _ c.place-end.ensures
 
 pub returns : goal.returns
 returns c =
-    let at = c.before.before.before in
-    fronted _ _ _ _ _ at.requires _ at.place-end.ensures _ c.insert_at.ensures
+    fronted _ _ _ _ _ c.requires _ c.place-end.ensures _ c.insert_at.ensures

@@ -21,10 +21,10 @@ below c =
     omega (arith, counting_below _ _ _ _ _ _ _ c.loop-left.invariant (omega arith) a.to counted, counted.asks.part.inside)
 
 pub offset_bounds-order-end : goal.offset_bounds-order-end
-offset_bounds-order-end c = search (rules, below c)
+offset_bounds-order-end c = search (rules, below (goal.at.offset_bounds-order-end c).In-loop-left)
 
 pub bounds-order-end : goal.bounds-order-end
-bounds-order-end c = search (rules, below c)
+bounds-order-end c = search (rules, below (goal.at.bounds-order-end c).In-loop-left)
 
 pub in_words-named-requires : goal.in_words-named-requires
 in_words-named-requires c =
@@ -40,10 +40,10 @@ overflow_sub-left c =
     counting_some _ _ _ _ _ _ _ v.invariant (omega arith) _ (moves_tested _ _ _ _ c.in_words-named.ensures) a.to a.counted
 
 pub overflow_add-end : goal.overflow_add-end
-overflow_add-end c = search (rules, below c.before.before.before)
+overflow_add-end c = search (rules, below (goal.at.overflow_add-end c).In-loop-left)
 
 pub loop-left-smaller : goal.loop-left-smaller
-loop-left-smaller c = omega (arith, below c.before.before.before)
+loop-left-smaller c = omega (arith, below (goal.at.loop-left-smaller c).In-loop-left)
 
 pub loop-left-preserved : goal.loop-left-preserved
 loop-left-preserved c =

@@ -43,11 +43,11 @@ left c =
 
 pub overflow_add-own : goal.overflow_add-own
 overflow_add-own c =
-    record { fits = omega (arith, one_most (named c), one_most (left c), c.loop-i.invariant.own_low) }
+    record { fits = omega (arith, one_most (named (goal.at.overflow_add-own c).After-in_words-named), one_most (left (goal.at.overflow_add-own c).After-in_words-named), c.loop-i.invariant.own_low) }
 
 pub overflow_add-count : goal.overflow_add-count
 overflow_add-count c =
-    record { fits = omega (arith, one_most (named c), one_most (left c), c.loop-i.invariant.count_low) }
+    record { fits = omega (arith, one_most (named (goal.at.overflow_add-count c).After-in_words-named), one_most (left (goal.at.overflow_add-count c).After-in_words-named), c.loop-i.invariant.count_low) }
 
 pub loop-i-preserved : goal.loop-i-preserved
 unfolding stays

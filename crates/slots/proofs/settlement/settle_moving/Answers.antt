@@ -37,54 +37,47 @@ counted : (c : After-lacked_count-named)
 counted c = counted_by _ _ _ _ _ _ _ c.requires _ c.lacked_count-named.ensures
 
 pub overflow_add-named : goal.overflow_add-named
-overflow_add-named c = search (rules, few c.before.before)
+overflow_add-named c = search (rules, few (goal.at.overflow_add-named c).After-lacked_count-named)
 
 pub counted_end-end-requires : goal.counted_end-end-requires
 counted_end-end-requires c =
-    let n = c.before.before in
-    record { to = n.args.to; counted = counted n }
+    record { to = c.args.to; counted = counted (goal.at.counted_end-end-requires c).After-lacked_count-named }
 
 -- ---- the place behind the last that moves
-abbrev tallied : After-counted_end-end → After-lacked_count-named
-tallied c = c.before.before.before
-
 behind : (c : After-counted_end-end)
-    → let a = (tallied c).args in NoneBehind a.order.now a.to a.words.now a.slot c.counted_end-end.result
-behind c = c.counted_end-end.ensures.end _ (counted (tallied c))
+    → let a = c.args in NoneBehind a.order.now a.to a.words.now a.slot c.counted_end-end.result
+behind c = c.counted_end-end.ensures.end _ (counted_by _ _ _ _ _ _ _ c.requires _ c.lacked_count-named.ensures)
 
-low : (c : After-counted_end-end) → (tallied c).args.from < c.counted_end-end.result
-low c = some-moves _ _ _ _ _ _ (counted (tallied c)) _ (behind c)
+low : (c : After-counted_end-end) → c.args.from < c.counted_end-end.result
+low c = some-moves _ _ _ _ _ _ (counted_by _ _ _ _ _ _ _ c.requires _ c.lacked_count-named.ensures) _ (behind c)
 
 high : (c : After-counted_end-end) → c.counted_end-end.result ≤ most_slots
-high c = omega (arith, (behind c).inside, (tallied c).requires.asks.part.inside)
+high c = omega (arith, (behind c).inside, c.requires.asks.part.inside)
 
 pub overflow_sub-last : goal.overflow_sub-last
-overflow_sub-last c = omega (arith, low c)
+overflow_sub-last c = omega (arith, low (goal.at.overflow_sub-last c).After-counted_end-end)
 
 pub offset_bounds-order-end : goal.offset_bounds-order-end
-offset_bounds-order-end c = search (rules, low c, high c)
+offset_bounds-order-end c = search (rules, low (goal.at.offset_bounds-order-end c).After-counted_end-end, high (goal.at.offset_bounds-order-end c).After-counted_end-end)
 
 pub bounds-order-end : goal.bounds-order-end
-bounds-order-end c = omega (arith, low c, high c)
+bounds-order-end c = omega (arith, low (goal.at.bounds-order-end c).After-counted_end-end, high (goal.at.bounds-order-end c).After-counted_end-end)
 
 pub overflow_sub-end : goal.overflow_sub-end
-overflow_sub-end c = omega (arith, low c.before.before)
+overflow_sub-end c = omega (arith, low (goal.at.overflow_sub-end c).After-counted_end-end)
 
 pub overflow_add-named-2 : goal.overflow_add-named-2
-overflow_add-named-2 c = search (rules, few (tallied c.before.before))
+overflow_add-named-2 c = search (rules, few (goal.at.overflow_add-named-2 c).After-lacked_count-named)
 
 pub returns-then-end-from : goal.returns-then-end-from
 returns-then-end-from c =
-    let e = c.before.before.before in
     let tests = both_true _ _ c.if-end-from.true in
-    settled-run _ _ _ _ _ _ (counted (tallied e)) _ (behind e) (eqb-true _ _ tests.0) (eqb-true _ _ tests.1)
+    settled-run _ _ _ _ _ _ (counted (goal.at.returns-then-end-from c).After-lacked_count-named) _ (behind (goal.at.returns-then-end-from c).After-counted_end-end) (eqb-true _ _ tests.0) (eqb-true _ _ tests.1)
 
 pub settle_upto-requires : goal.settle_upto-requires
 settle_upto-requires c =
-    let e = c.before.before.before in
-    asked_upto _ _ _ _ _ _ (counted (tallied e)) _ (behind e)
+    asked_upto _ _ _ _ _ _ (counted (goal.at.settle_upto-requires c).After-lacked_count-named) _ (behind (goal.at.settle_upto-requires c).After-counted_end-end)
 
 pub returns : goal.returns
 returns c =
-    let e = c.before.before.before.before in
-    settled_further _ _ _ _ _ (counted (tallied e)).asks _ (behind e).inside (behind e).behind _ _ _ c.settle_upto.ensures
+    settled_further _ _ _ _ _ (counted (goal.at.returns c).After-lacked_count-named).asks _ (behind (goal.at.returns c).After-counted_end-end).inside (behind (goal.at.returns c).After-counted_end-end).behind _ _ _ c.settle_upto.ensures

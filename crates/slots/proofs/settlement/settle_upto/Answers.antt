@@ -14,16 +14,16 @@ own_below : (c : After-separate-own) → c.separate-own.result < c.args.end
 own_below c = own_inside _ _ _ _ _ c.requires _ _ _ c.separate-own.ensures
 
 pub offset_bounds-order-own : goal.offset_bounds-order-own
-offset_bounds-order-own c = search (rules, own_below c, c.requires.part.inside)
+offset_bounds-order-own c = search (rules, own_below (goal.at.offset_bounds-order-own c).After-separate-own, c.requires.part.inside)
 
 pub bounds-order-own : goal.bounds-order-own
-bounds-order-own c = search (rules, own_below c, c.requires.part.inside)
+bounds-order-own c = search (rules, own_below (goal.at.bounds-order-own c).After-separate-own, c.requires.part.inside)
 
 pub overflow_add-committed : goal.overflow_add-committed
-overflow_add-committed c = search (rules, own_below c, c.requires.part.inside)
+overflow_add-committed c = search (rules, own_below (goal.at.overflow_add-committed c).After-separate-own, c.requires.part.inside)
 
 pub overflow_sub-end : goal.overflow_sub-end
-overflow_sub-end c = search (rules, own_below c.before.before)
+overflow_sub-end c = search (rules, own_below (goal.at.overflow_sub-end c).After-separate-own)
 
 pub put_first-requires : goal.put_first-requires
 put_first-requires c =
@@ -31,5 +31,4 @@ put_first-requires c =
 
 pub returns : goal.returns
 returns c =
-    let d = c.before.before.before in
-    rw c.put_first.ensures (settled_by_lem _ _ _ _ _ d.requires _ _ _ d.separate-own.ensures)
+    rw c.put_first.ensures (settled_by_lem _ _ _ _ _ c.requires _ _ _ c.separate-own.ensures)

@@ -24,13 +24,11 @@ loop-i-init c =
 pub loop-i-preserved : goal.loop-i-preserved
 loop-i-preserved c =
     let v = c.loop-i in
-    let a = c.before.before.before in
-    let more = store_on (most_panels * a.args.slot) v.i v.contexts a.args.words.now (omega (arith, count a)) in
+    let more = store_on (most_panels * c.args.slot) v.i v.contexts c.args.words.now (omega (arith, count (goal.at.loop-i-preserved c).Start)) in
     (omega arith, more ∙ v.invariant.1)
 
 pub returns : goal.returns
 returns c =
     let v = c.loop-i in
-    let a = c.before.before.before in
-    let none : drop v.i a.args.words.now ≡ [] = drop_of_length-le a.args.words.now {i = v.i} (omega (arith, count a)) in
-    ap (sets v.contexts (most_panels * a.args.slot + v.i)) (sym none) ∙ v.invariant.1
+    let none : drop v.i c.args.words.now ≡ [] = drop_of_length-le c.args.words.now {i = v.i} (omega (arith, count (goal.at.returns c).Start)) in
+    ap (sets v.contexts (most_panels * c.args.slot + v.i)) (sym none) ∙ v.invariant.1

@@ -11,11 +11,9 @@ use Rattle.store.proofs.requests.same_at.Goals as goal
 pub returns : goal.returns
 unfolding same_request request_at
 returns c =
-    let named = c.before.before in
-    let asking = named.before.before in
-    let a = asking.args in
+    let a = c.args in
     rw (
       same_number_self (number_of a.slot),
-      asking.same-asking.ensures ∙ ap (λ (x : Asked). same_asked x a.asked) asking.asked_at-there.ensures,
-      named.same_words-named.ensures,
+      c.same-asking.ensures ∙ ap (λ (x : Asked). same_asked x a.asked) c.asked_at-there.ensures,
+      c.same_words-named.ensures,
     )

@@ -9,11 +9,8 @@ use Rattle.numbers.specs.Numbers.{most_panels}
 use Rattle.sets.specs.Sets.{same_words, same_context}
 use Rattle.sets.proofs.WordLaws.{same-passed, same_stopped, same_end}
 use Rattle.store.specs.Requests.{context_at}
+use Rattle.store.proofs.requests.same_words.Invariants.{there}
 use Rattle.store.proofs.requests.same_words.Goals as goal
-
--- the words of the context at a slot
-abbrev there : List ℕ → ℕ → List ℕ
-there contexts slot = slice (most_panels * slot) (most_panels * slot + most_panels) contexts
 
 pub loop-i-init : goal.loop-i-init
 loop-i-init c =

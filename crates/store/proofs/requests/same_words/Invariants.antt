@@ -11,6 +11,10 @@ use Rattle.sets.proofs.WordLaws.{same-passed, same_stopped, same_end}
 use Rattle.store.specs.Requests.{context_at}
 use Rattle.store.proofs.requests.same_words.Given as goal
 
+-- the words of the context at a slot
+abbrev pub there : List ℕ → ℕ → List ℕ
+there contexts slot = slice (most_panels * slot) (most_panels * slot + most_panels) contexts
+
 abbrev pub invariant-loop-i : goal.invariant-loop-i
 invariant-loop-i l =
     (length (there l.contexts l.slot) ≡ most_panels)

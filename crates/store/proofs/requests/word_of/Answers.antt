@@ -10,33 +10,24 @@ use Rattle.lists.proofs.ListLaws.{one_most}
 use Rattle.store.specs.Requests.{word_of}
 use Rattle.store.proofs.WordLaws.{Narrow, asked-read}
 use Rattle.store.proofs.requests.word_of.Goals as goal
-use Rattle.store.proofs.requests.word_of.Goals.{After-struct_known-5-1, Start}
-
--- ---- earlier places of the function, from later ones
-abbrev start : After-struct_known-5-1 → Start
-start c = c.before.before.before.before.before
 
 -- the number of a bool
 bool-number : (b : Bool) → bool_byte b ≡ one b
 bool-number true = refl
 bool-number false = refl
 
--- what is asked for, from where all its fields are read
-abbrev asked : After-struct_known-5-1 → Asked
-asked c = (start c).args.a
-
 pub overflow_mul-result-3 : goal.overflow_mul-result-3
-overflow_mul-result-3 c = let b = (asked c).strong in omega (arith, bool-number b, one_most b)
+overflow_mul-result-3 c = let b = c.args.a.strong in omega (arith, bool-number b, one_most b)
 
 pub overflow_add-result-3 : goal.overflow_add-result-3
-overflow_add-result-3 c = let b = (asked c).strong in omega (arith, bool-number b, one_most b)
+overflow_add-result-3 c = let b = c.args.a.strong in omega (arith, bool-number b, one_most b)
 
 pub overflow_add-result-4 : goal.overflow_add-result-4
-overflow_add-result-4 c = let b = (asked c).strong in omega (arith, bool-number b, one_most b)
+overflow_add-result-4 c = let b = c.args.a.strong in omega (arith, bool-number b, one_most b)
 
 pub returns : goal.returns
 unfolding word_of
 returns c =
-    let narrow : Narrow (asked c) = search rules in
-    let bit = bool-number (asked c).strong in
-    record { word = rw bit; read = rw bit (asked-read (asked c) narrow) }
+    let narrow : Narrow c.args.a = search rules in
+    let bit = bool-number c.args.a.strong in
+    record { word = rw bit; read = rw bit (asked-read c.args.a narrow) }
