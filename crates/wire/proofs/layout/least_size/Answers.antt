@@ -4,12 +4,12 @@ use Rattle.wire.proofs.layout.least_size.Goals as goal
 
 pub returns-in-Weak : goal.returns-in-Weak
 unfolding least_size widths_with layout
-returns-in-Weak c = rw c.enum_told-1.given.1
+returns-in-Weak c = rw c.in-Weak.is
 
 pub returns-in-Strong : goal.returns-in-Strong
 unfolding least_size widths_with layout
-returns-in-Strong c = rw c.enum_told-in-Strong-1.given.1
+returns-in-Strong c = rw c.in-Strong.is
 
 pub returns-in-Settlement : goal.returns-in-Settlement
 unfolding least_size widths_with layout
-returns-in-Settlement c = rw c.enum_told-in-Settlement-1.given.1
+returns-in-Settlement c = rw c.in-Settlement.is

@@ -6,9 +6,9 @@ use Rattle.wire.proofs.messages.kind_of.Goals as goal
 
 pub returns-in-Request : goal.returns-in-Request
 returns-in-Request c =
-    let told = c.enum_told-1.given.1 in
+    let told = c.in-Request.is in
     c.kind_of_request.ensures ∙ sym (ap kind_of (said-request c.args.m told))
 
 pub returns-in-Settlement : goal.returns-in-Settlement
 unfolding kind_of
-returns-in-Settlement c = sym (ap kind_of (said-settlement c.args.m c.enum_told-in-Settlement-1.given.1))
+returns-in-Settlement c = sym (ap kind_of (said-settlement c.args.m c.in-Settlement.is))

@@ -5,25 +5,22 @@ use Rattle.wire.proofs.HeadLaws.{good_head, good_reads, end_reads, refused_reads
 use Rattle.wire.proofs.reader.read.Goals as goal
 
 pub message_at-message-requires : goal.message_at-message-requires
-message_at-message-requires c = good_head _ _ _ c.head_at-head.ensures _ c.answer-1.given.1
+message_at-message-requires c = good_head _ _ _ c.head_at-head.ensures _ c.in-Good.is
 
 pub returns-in-Good : goal.returns-in-Good
 unfolding answered
 returns-in-Good c =
-    let match = c.before.before.before in
-    let reads = good_reads _ _ _ match.head_at-head.ensures _ match.answer-1.given.1 in
+    let reads = good_reads _ _ _ c.head_at-head.ensures _ c.in-Good.is in
     rw c.message_at-message.ensures (sym (ap answered reads))
 
 pub returns-in-End : goal.returns-in-End
 unfolding answered
 returns-in-End c =
-    let match = c.before.before in
-    let reads = end_reads _ _ _ match.head_at-head.ensures match.enum_told-1.given.1 in
+    let reads = end_reads _ _ _ c.head_at-head.ensures c.in-End.is in
     c.untaken.ensures ∙ sym (ap answered reads)
 
 pub returns-in-Refused : goal.returns-in-Refused
 unfolding answered
 returns-in-Refused c =
-    let match = c.before.before.before in
-    let reads = refused_reads _ _ _ match.head_at-head.ensures _ match.answer-in-Refused-1.given.1 in
+    let reads = refused_reads _ _ _ c.head_at-head.ensures _ c.in-Refused.is in
     c.untaken-in-Refused.ensures ∙ sym (ap answered reads)
