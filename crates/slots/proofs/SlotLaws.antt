@@ -8,8 +8,7 @@ use Rattle.numbers.specs.Numbers.{same_number}
 use Rattle.numbers.specs.internal.Slots.{number_of}
 use Rattle.ordering.specs.Slots.{IsSlot}
 use Rattle.slots.specs.Settlement.{stays}
-use Rattle.ordering.proofs.SlotLaws.{part_of, part_slot, same_slot, in_words_member, common_from, common_until, comes-before-order}
-use Rattle.ordering.proofs.InsertionLaws.{later_from_place}
+use Rattle.ordering.proofs.SlotLaws.{same_slot, in_words_member}
 
 -- a slot stays where its number is neither in the context nor the settled one
 pub stays_by_number : (context : Context) (s t : ℕ) → IsSlot s → IsSlot t

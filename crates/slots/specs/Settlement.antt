@@ -1,5 +1,5 @@
 -- The order after a settlement, and the steps by which it is made.
-use Rattle.std.specs.Prelude.{ℕ, ◌+◌, ◌-◌, ◌≤◌, ◌≡◌, Bool, true, false, not, ◌||◌, List, ◌∷◌, ◌++◌, length, take, drop, get_or, eqb}
+use Rattle.std.specs.Prelude.{ℕ, ◌+◌, ◌≤◌, ◌≡◌, Bool, true, false, not, ◌||◌, List, ◌∷◌, ◌++◌, length, take, drop, eqb}
 use Rattle.std.proofs.Math.Seq.{slice}
 use Rattle.lists.specs.Lists.{count, keep}
 use Rattle.ordering.specs.Slots.{most_slots, IsSlot, Part, InOrder, in_words}

@@ -1,5 +1,5 @@
 -- `execute` meets its contract: nothing off the board, else what the two functions for operations on the board do.
-use Rattle.std.proofs.Common.{◌≡◌, false, sym, ◌∙◌, rules}
+use Rattle.std.proofs.Common.{◌≡◌, false, sym, ◌∙◌}
 use Rattle.effects.specs.Effect.{off_board}
 use Rattle.effects.proofs.RegisterLaws.{executed_off}
 use Rattle.executing.proofs.execute.Goals as goal

@@ -1,5 +1,5 @@
 -- `execute_claim_all` meets its contract: each of its two returns is an outcome of such a claim.
-use Rattle.std.proofs.Common.{sym, ◌∙◌, rules}
+use Rattle.std.proofs.Common.{sym, ◌∙◌}
 use Rattle.effects.proofs.RegisterLaws.{executed_claim_all, executed_no_claim_all}
 use Rattle.executing.proofs.execute_claim_all.Goals as goal
 

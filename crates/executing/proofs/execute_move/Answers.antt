@@ -1,5 +1,5 @@
 -- `execute_move` meets its contract: what it works out is the amount moved, and its one return is a move's outcome.
-use Rattle.std.proofs.Common.{◌≡◌, arith, rules}
+use Rattle.std.proofs.Common.{◌≡◌, arith}
 use Rattle.effects.specs.Effect.{amount_moved, moved}
 use Rattle.effects.proofs.RegisterLaws.{on_board_is, executed-move}
 use Rattle.executing.proofs.execute_move.Goals as goal

@@ -1,5 +1,5 @@
 -- `execute_one` meets its contract: the law of the operations on one register.
-use Rattle.std.proofs.Common.{arith, rules}
+use Rattle.std.proofs.Common.{arith}
 use Rattle.effects.proofs.RegisterLaws.{on_board_is}
 use Rattle.executing.proofs.OneRegisterLaws.{executed-one}
 use Rattle.executing.proofs.execute_one.Goals as goal

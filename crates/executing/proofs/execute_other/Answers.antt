@@ -1,5 +1,4 @@
 -- `execute_other` meets its contract: a move, a claim of registers together, or nothing.
-use Rattle.std.proofs.Common.{rules}
 use Rattle.executing.proofs.OneRegisterLaws.{executed_other}
 use Rattle.executing.proofs.execute_other.Goals as goal
 

@@ -1,8 +1,7 @@
 -- `lowest_held` meets its contract. The invariant: what is held so far or else the first one held from k on is the first one held.
-use Rattle.std.proofs.Common.{◌≡◌, suc, ◌+◌, ◌-◌, ◌<◌, ◌≤◌, sym, refl, ◌∙◌, arith, rules, ltb-true, eqb-true}
+use Rattle.std.proofs.Common.{◌≡◌, ◌+◌, ◌<◌, sym, refl, ◌∙◌, arith, ltb-true, eqb-true}
 use Rattle.lists.proofs.BoolLaws.{both_true}
-use Rattle.request.specs.Operations.{last_register}
-use Rattle.effects.specs.Effect.{unless_zero, first_held, lowest_held}
+use Rattle.effects.specs.Effect.{lowest_held}
 use Rattle.effects.proofs.RegisterLaws.{on_board_is}
 use Rattle.effects.proofs.SpanLaws.{held_on, held-end}
 use Rattle.executing.proofs.lowest_held.Goals as goal

@@ -1,7 +1,5 @@
 -- `set_all` meets its contract. The invariant: setting what is left from `at` on gives all of them set.
-use Rattle.std.proofs.Common.{◌≡◌, suc, ◌-◌, ◌≤◌, replicate, sym, refl, ◌∙◌, arith, rules}
-use lib.Seq.{sets}
-use Rattle.request.specs.Operations.{last_register}
+use Rattle.std.proofs.Common.{sym, refl, ◌∙◌, arith}
 use Rattle.effects.specs.Effect.{all_set}
 use Rattle.effects.proofs.RegisterLaws.{on_board_is}
 use Rattle.effects.proofs.SpanLaws.{set_on, set-end}

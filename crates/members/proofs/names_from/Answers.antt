@@ -1,12 +1,9 @@
 -- `members::names_from` meets its contract. The invariant: the words from the panel on are all zero where those from i on are.
-use Prim.Native.Nat.{◌-◌}
 use native.Mathlib.Omega.{arith}
 use borrow.Author.Rules.{rules}
-use mathlib.Core.Path.{◌≡◌, refl, sym, ap, ◌∙◌}
+use mathlib.Core.Path.{refl, sym, ap, ◌∙◌}
 use mathlib.Core.Bool.{not}
-use lib.ListN.{length, drop}
-use Rattle.numbers.specs.Numbers.{most_panels}
-use Rattle.sets.specs.Sets.{all_zero, names_from}
+use Rattle.sets.specs.Sets.{names_from}
 use Rattle.sets.proofs.WordLaws.{zero-passed, zero_stopped, zero-end}
 use Rattle.members.proofs.names_from.Goals as goal
 

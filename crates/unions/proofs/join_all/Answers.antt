@@ -1,8 +1,6 @@
 -- `members::join_all` meets its contract; the laws of a turn are in `UnionLaws`.
-use Prim.Native.Nat.{◌-◌}
 use native.Mathlib.Omega.{arith}
-use Rattle.numbers.specs.Numbers.{most_panels}
-use Rattle.unions.proofs.UnionLaws.{Uniting, uniting_starts, uniting_on, uniting_ends}
+use Rattle.unions.proofs.UnionLaws.{uniting_starts, uniting_on, uniting_ends}
 use Rattle.unions.proofs.join_all.Goals as goal
 
 pub loop-i-init : goal.loop-i-init

@@ -1,8 +1,7 @@
 -- `members::join_all` meets its contract; the laws of a turn are in `UnionLaws`.
 use Prim.Native.Nat.{◌-◌}
-use native.Mathlib.Omega.{arith}
 use Rattle.numbers.specs.Numbers.{most_panels}
-use Rattle.unions.proofs.UnionLaws.{Uniting, uniting_starts, uniting_on, uniting_ends}
+use Rattle.unions.proofs.UnionLaws.{Uniting}
 use Rattle.unions.proofs.join_all.Given as goal
 
 abbrev pub invariant-loop-i : goal.invariant-loop-i

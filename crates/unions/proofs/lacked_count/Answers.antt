@@ -1,5 +1,5 @@
 -- `members::lacked_count` meets its contract. The invariant: the words before the place are counted.
-use Prim.Native.Nat.{ℕ, ◌*◌, ◌-◌, ◌≤◌}
+use Prim.Native.Nat.{ℕ, ◌*◌}
 use native.Mathlib.Omega.{arith}
 use mathlib.Core.Path.{◌≡◌, refl, ap, ◌∙◌}
 use lib.ListN.{get_or}
@@ -8,7 +8,6 @@ use Rattle.lists.specs.Tally.{tally}
 use Rattle.lists.proofs.TallyLaws.{tally_most}
 use Rattle.unions.specs.Lacked.{named_beside, lacked_count}
 use Rattle.unions.proofs.LackedLaws.{lacked_most, lacked-next}
-use Rattle.unions.proofs.lacked_bits.Reads as lacked-bits-reads
 use Rattle.unions.proofs.lacked_count.Goals as goal
 
 pub loop-i-init : goal.loop-i-init

@@ -1,14 +1,9 @@
 -- `members::lacked_count` meets its contract. The invariant: the words before the place are counted.
-use Prim.Native.Nat.{ℕ, ◌*◌, ◌-◌, ◌≤◌}
-use native.Mathlib.Omega.{arith}
-use mathlib.Core.Path.{◌≡◌, refl, ap, ◌∙◌}
-use lib.ListN.{get_or}
+use Prim.Native.Nat.{◌*◌, ◌-◌, ◌≤◌}
+use mathlib.Core.Path.{◌≡◌}
 use Rattle.numbers.specs.Numbers.{most_panels, most_events}
 use Rattle.lists.specs.Tally.{tally}
-use Rattle.lists.proofs.TallyLaws.{tally_most}
-use Rattle.unions.specs.Lacked.{named_beside, lacked_count}
-use Rattle.unions.proofs.LackedLaws.{lacked_most, lacked-next}
-use Rattle.unions.proofs.lacked_bits.Reads as lacked-bits-reads
+use Rattle.unions.specs.Lacked.{named_beside}
 use Rattle.unions.proofs.lacked_count.Given as goal
 
 abbrev pub invariant-loop-i : goal.invariant-loop-i

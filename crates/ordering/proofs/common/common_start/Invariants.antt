@@ -1,14 +1,9 @@
 -- `common::common_start` meets its contract. The invariant: the place, with what is common from there on, is the whole's.
-use Prim.Native.Nat.{ℕ, ◌+◌, ◌≤◌, ◌<◌, ◌-◌}
-use native.Mathlib.Omega.{arith}
-use mathlib.Core.Path.{◌≡◌, refl, sym, ap, ◌∙◌}
-use mathlib.Core.Bool.{Bool, true, false, ◌&&◌}
-use mathlib.Core.List.{List}
-use lib.Dec.{eqb, ltb}
+use Prim.Native.Nat.{◌+◌, ◌≤◌, ◌-◌}
+use mathlib.Core.Path.{◌≡◌}
+use lib.Dec.{eqb}
 use lib.Seq.{slice}
 use Rattle.lists.specs.Lists.{common_start}
-use Rattle.lists.proofs.BoolLaws.{both_true}
-use Rattle.lists.proofs.StepLaws.{common_on, common_stops, common_end_first, common_end_second}
 use Rattle.ordering.proofs.common.common_start.Given as goal
 
 abbrev pub invariant-loop-place : goal.invariant-loop-place

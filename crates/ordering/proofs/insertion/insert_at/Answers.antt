@@ -1,11 +1,10 @@
 -- `insertion::insert_at` meets its contract. The invariant: putting what is carried at place i is still the whole insertion.
-use Prim.Native.Nat.{ℕ, ◌≤◌, ◌+◌, ◌-◌}
+use Prim.Native.Nat.{ℕ, ◌+◌}
 use native.Mathlib.Omega.{arith}
 use mathlib.Core.Path.{◌≡◌, refl, sym, ap, ◌∙◌}
-use lib.ListN.{length, take, drop, length-set}
+use lib.ListN.{take, length-set}
 use lib.Seq.{drop-set-lt}
 use Rattle.lists.specs.Places.{insert_at}
-use Rattle.ordering.specs.Slots.{most_slots}
 use Rattle.ordering.proofs.InsertionLaws.{carried_on, carried-end}
 use Rattle.ordering.proofs.insertion.insert_at.Goals as goal
 

@@ -1,12 +1,9 @@
 -- `insertion::insert_at` meets its contract. The invariant: putting what is carried at place i is still the whole insertion.
-use Prim.Native.Nat.{ℕ, ◌≤◌, ◌+◌, ◌-◌}
-use native.Mathlib.Omega.{arith}
-use mathlib.Core.Path.{◌≡◌, refl, sym, ap, ◌∙◌}
-use lib.ListN.{length, take, drop, length-set}
-use lib.Seq.{drop-set-lt}
+use Prim.Native.Nat.{◌≤◌, ◌+◌, ◌-◌}
+use mathlib.Core.Path.{◌≡◌}
+use lib.ListN.{length, take, drop}
 use Rattle.lists.specs.Places.{insert_at}
 use Rattle.ordering.specs.Slots.{most_slots}
-use Rattle.ordering.proofs.InsertionLaws.{carried_on, carried-end}
 use Rattle.ordering.proofs.insertion.insert_at.Given as goal
 
 abbrev pub invariant-loop-i : goal.invariant-loop-i

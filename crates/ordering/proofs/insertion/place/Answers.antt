@@ -3,8 +3,7 @@ use Prim.Native.Nat.{ℕ, ◌+◌, ◌-◌, ◌/◌}
 use native.Mathlib.Omega.{arith}
 use mathlib.Core.Path.{sym, ap, ◌∙◌}
 use mathlib.Core.Bool.{not}
-use Rattle.lists.proofs.HalvesLaws.{Halving, halving_starts, halving-passed, halving_failed, halving_ends}
-use Rattle.ordering.specs.Slots.{comes_before}
+use Rattle.lists.proofs.HalvesLaws.{halving_starts, halving-passed, halving_failed, halving_ends}
 use Rattle.ordering.proofs.SlotLaws.{comparison_asked}
 use Rattle.ordering.proofs.InsertionLaws.{place_behind_last}
 use Rattle.ordering.proofs.insertion.place.Goals as goal

@@ -1,12 +1,7 @@
 -- `insertion::place` meets its contract; the laws of the search by halves are in `HalvesLaws` of the lists.
-use Prim.Native.Nat.{ℕ, ◌+◌, ◌-◌, ◌/◌}
-use native.Mathlib.Omega.{arith}
-use mathlib.Core.Path.{sym, ap, ◌∙◌}
-use mathlib.Core.Bool.{not}
-use Rattle.lists.proofs.HalvesLaws.{Halving, halving_starts, halving-passed, halving_failed, halving_ends}
+use Prim.Native.Nat.{◌-◌}
+use Rattle.lists.proofs.HalvesLaws.{Halving}
 use Rattle.ordering.specs.Slots.{comes_before}
-use Rattle.ordering.proofs.SlotLaws.{comparison_asked}
-use Rattle.ordering.proofs.InsertionLaws.{place_behind_last}
 use Rattle.ordering.proofs.insertion.place.Given as goal
 
 abbrev pub invariant-loop-low : goal.invariant-loop-low

@@ -1,13 +1,9 @@
 -- `later::take_out` meets its contract. The invariant: taking out those from the place on still leads to the whole.
-use Prim.Native.Nat.{ℕ, ◌+◌, ◌-◌, ◌≤◌}
-use native.Mathlib.Omega.{arith}
-use mathlib.Core.Path.{◌≡◌, refl, sym, ap, ◌∙◌}
-use lib.ListN.{get_or}
+use Prim.Native.Nat.{◌-◌, ◌≤◌}
+use mathlib.Core.Path.{◌≡◌}
 use lib.Seq.{slice}
-use Rattle.sets.specs.declared.Context.{Context}
 use Rattle.sets.specs.Sets.{set_of}
-use Rattle.ordering.specs.Slots.{IsSlot, without}
-use Rattle.ordering.proofs.SlotLaws.{part_slot, taken_out, without-next, without_end}
+use Rattle.ordering.specs.Slots.{without}
 use Rattle.ordering.proofs.later.take_out.Given as goal
 
 abbrev pub invariant-loop-at : goal.invariant-loop-at

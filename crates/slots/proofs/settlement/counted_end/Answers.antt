@@ -1,12 +1,11 @@
 -- `settlement::counted_end` meets its contract; the laws of a turn are in `CountedLaws`.
-use Prim.Native.Nat.{◌-◌, ◌<◌}
+use Prim.Native.Nat.{◌<◌}
 use native.Mathlib.Omega.{arith}
 use borrow.Author.Rules.{rules}
 use Rattle.ordering.specs.Slots.{most_slots}
 use Rattle.ordering.proofs.SlotLaws.{part_slot}
-use Rattle.slots.proofs.CountedLaws.{Counting, counting_starts, counting_below, counting_some, counting_on, counting_ends}
+use Rattle.slots.proofs.CountedLaws.{counting_starts, counting_below, counting_some, counting_on, counting_ends}
 use Rattle.slots.proofs.CountedLaws.{moves_tested}
-use Rattle.slots.proofs.settlement.in_words.Reads as in-words-reads
 use Rattle.slots.proofs.settlement.counted_end.Goals as goal
 use Rattle.slots.proofs.settlement.counted_end.Goals.{In-loop-left}
 

@@ -1,5 +1,4 @@
 -- `settlement::separate` meets its contract; the laws of a turn are in `SeparationLaws`.
-use Prim.Native.Nat.{◌-◌}
 use native.Mathlib.Omega.{arith}
 use mathlib.Core.Path.{refl}
 use mathlib.Core.Bool.{Bool, not, ◌||◌}
@@ -8,7 +7,7 @@ use lib.Dec.{eqb}
 use Rattle.lists.proofs.ListLaws.{one_most}
 use Rattle.slots.specs.Settlement.{stays}
 use Rattle.ordering.proofs.SlotLaws.{part_slot}
-use Rattle.slots.proofs.SeparationLaws.{Separating, separating_here, separating_on, separating-end}
+use Rattle.slots.proofs.SeparationLaws.{separating_here, separating_on, separating-end}
 use Rattle.slots.proofs.settlement.separate.Goals as goal
 use Rattle.slots.proofs.settlement.separate.Goals.{After-in_words-named}
 

@@ -1,14 +1,6 @@
 -- `settlement::separate` meets its contract; the laws of a turn are in `SeparationLaws`.
 use Prim.Native.Nat.{◌-◌}
-use native.Mathlib.Omega.{arith}
-use mathlib.Core.Path.{refl}
-use mathlib.Core.Bool.{Bool, not, ◌||◌}
-use lib.ListN.{get_or}
-use lib.Dec.{eqb}
-use Rattle.lists.proofs.ListLaws.{one_most}
-use Rattle.slots.specs.Settlement.{stays}
-use Rattle.ordering.proofs.SlotLaws.{part_slot}
-use Rattle.slots.proofs.SeparationLaws.{Separating, separating_here, separating_on, separating-end}
+use Rattle.slots.proofs.SeparationLaws.{Separating}
 use Rattle.slots.proofs.settlement.separate.Given as goal
 
 abbrev pub invariant-loop-i : goal.invariant-loop-i

@@ -1,15 +1,9 @@
 -- `context_at` meets its contract: storing the words that are left gives them all.
-use Prim.Native.Nat.{ℕ, ◌≤◌, ◌+◌, ◌-◌, ◌*◌}
-use native.Mathlib.Omega.{arith}
-use mathlib.Core.Path.{◌≡◌, refl, sym, ap, ◌∙◌}
-use mathlib.Core.List.{[]}
-use lib.ListN.{length, length-set, replicate}
-use lib.Seq.{sets, slice, slice_empty, length-slice}
-use Rattle.lists.proofs.PlaceLaws.{sets_all}
+use Prim.Native.Nat.{◌≤◌, ◌+◌, ◌-◌}
+use mathlib.Core.Path.{◌≡◌}
+use lib.ListN.{length}
+use lib.Seq.{sets, slice}
 use Rattle.numbers.specs.Numbers.{most_panels}
-use Rattle.sets.specs.Sets.{set_of}
-use Rattle.store.specs.Requests.{context_at}
-use Rattle.store.proofs.SliceLaws.{read_on}
 use Rattle.store.proofs.requests.context_at.Given as goal
 
 abbrev pub invariant-loop-i : goal.invariant-loop-i

@@ -1,12 +1,9 @@
 -- `put_words` meets its contract: storing the words that are left gives them all.
-use Prim.Native.Nat.{ℕ, ◌≤◌, ◌+◌, ◌-◌, ◌*◌}
-use native.Mathlib.Omega.{arith}
-use mathlib.Core.Path.{◌≡◌, sym, ap, ◌∙◌}
-use mathlib.Core.List.{[]}
-use lib.ListN.{length, drop, drop_of_length-le}
+use Prim.Native.Nat.{◌≤◌, ◌+◌, ◌-◌}
+use mathlib.Core.Path.{◌≡◌}
+use lib.ListN.{drop}
 use lib.Seq.{sets}
 use Rattle.numbers.specs.Numbers.{most_panels}
-use Rattle.store.proofs.SliceLaws.{store_on}
 use Rattle.store.proofs.requests.put_words.Given as goal
 
 abbrev pub invariant-loop-i : goal.invariant-loop-i

@@ -1,12 +1,12 @@
 -- `same_words` meets its contract. The invariant: the words are the same where those from i on are.
-use Prim.Native.Nat.{ℕ, ◌+◌, ◌-◌, ◌*◌, ◌<◌}
+use Prim.Native.Nat.{ℕ, ◌+◌, ◌*◌, ◌<◌}
 use native.Mathlib.Omega.{arith}
 use mathlib.Core.Path.{◌≡◌, refl, sym, ◌∙◌}
 use mathlib.Core.List.{List}
-use lib.ListN.{length, drop, take, get_or}
-use lib.Seq.{slice, length-slice, get_or-drop, get_or-take}
+use lib.ListN.{take, get_or}
+use lib.Seq.{length-slice, get_or-drop, get_or-take}
 use Rattle.numbers.specs.Numbers.{most_panels}
-use Rattle.sets.specs.Sets.{same_words, same_context}
+use Rattle.sets.specs.Sets.{same_context}
 use Rattle.sets.proofs.WordLaws.{same-passed, same_stopped, same_end}
 use Rattle.store.specs.Requests.{context_at}
 use Rattle.store.proofs.requests.same_words.Invariants.{there}

@@ -1,14 +1,11 @@
 -- `same_words` meets its contract. The invariant: the words are the same where those from i on are.
-use Prim.Native.Nat.{ℕ, ◌+◌, ◌-◌, ◌*◌, ◌<◌}
-use native.Mathlib.Omega.{arith}
-use mathlib.Core.Path.{◌≡◌, refl, sym, ◌∙◌}
+use Prim.Native.Nat.{ℕ, ◌+◌, ◌-◌, ◌*◌}
+use mathlib.Core.Path.{◌≡◌}
 use mathlib.Core.List.{List}
-use lib.ListN.{length, drop, take, get_or}
-use lib.Seq.{slice, length-slice, get_or-drop, get_or-take}
+use lib.ListN.{length, drop}
+use lib.Seq.{slice}
 use Rattle.numbers.specs.Numbers.{most_panels}
-use Rattle.sets.specs.Sets.{same_words, same_context}
-use Rattle.sets.proofs.WordLaws.{same-passed, same_stopped, same_end}
-use Rattle.store.specs.Requests.{context_at}
+use Rattle.sets.specs.Sets.{same_words}
 use Rattle.store.proofs.requests.same_words.Given as goal
 
 -- the words of the context at a slot

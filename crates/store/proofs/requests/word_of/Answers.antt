@@ -5,7 +5,6 @@ use mathlib.Core.Bool.{Bool, true, false}
 use mir.Val.{bool_byte}
 use borrow.Author.Rules.{rules}
 use Rattle.lists.specs.Lists.{one}
-use Rattle.request.specs.declared.Asked.{Asked}
 use Rattle.lists.proofs.ListLaws.{one_most}
 use Rattle.store.specs.Requests.{word_of}
 use Rattle.store.proofs.WordLaws.{Narrow, asked-read}
