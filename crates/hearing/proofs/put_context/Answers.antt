@@ -15,10 +15,7 @@ long : (c : Start) → length c.args.words.now ≡ most_panels
 long c = ap length c.requires.0 ∙ length-replicate {A = ℕ} most_panels 0
 
 pub words_at-requires : goal.words_at-requires
-words_at-requires c =
-    let then = c.before.before in
-    let a = then.before.before.before in
-    (long a, omega (arith, rw then.if-strong.true at a.requires.1))
+words_at-requires c = (long (goal.at.words_at-requires c).Start, omega (arith, rw c.if-strong.true at c.requires.1))
 
 pub returns-then-strong : goal.returns-then-strong
 returns-then-strong c = record {
@@ -27,6 +24,7 @@ returns-then-strong c = record {
 }
 
 pub returns-else-strong : goal.returns-else-strong
-returns-else-strong c =
-    let a = c.before.before.before in
-    record { context = rw c.if-strong.false (ap set_of a.requires.0); long = long a }
+returns-else-strong c = record {
+  context = rw c.if-strong.false (ap set_of c.requires.0);
+  long = long (goal.at.returns-else-strong c).Start;
+}
