@@ -6,7 +6,7 @@ ghost use Rattle.wire.specs.Message.{as_message};
 ghost use Rattle.wire.specs.Reader.{answered, read_at};
 ghost use Rattle.wire.specs.Head.{GoodHead, message_at};
 ghost use Rattle.wire.specs.Writer.{Wrote};
-ghost use Rattle.c_messages.specs.Messages.{subject_by, message_for, shown_for, read_from, unread as unreadBy};
+ghost use Rattle.c_messages.specs.Messages.{subject_by, message_for, shown_for, read_from, unread as unread_by};
 
 use fields::reading;
 use request::{Request, refusal};
@@ -95,7 +95,7 @@ fn message_at(s: &[u8], at: usize, kind: Kind) -> Message
 
 // No message, by that refusal.
 fn unread(refusal: u8) -> Reading
-    ensures { result ≡ unreadBy refusal }
+    ensures { result ≡ unread_by refusal }
 {
     let request = request::none();
     let message = Message {

@@ -6,7 +6,7 @@ ghost use Rattle.creek.specs.Book.{invoke};
 ghost use Rattle.replica.specs.internal.Parts.{Asks};
 ghost use Rattle.steps.specs.Lent.{execute_now, execute_entry, execute_exit};
 ghost use Rattle.invoking.specs.Invoking.{own_now, own_entry, own_exit, invoke_parts, InvokeAsks};
-ghost use Rattle.entering.specs.Entering.{lent_now as enterNow, lent_entry as enterEntry, lent_exit as enterExit};
+ghost use Rattle.entering.specs.Entering.{lent_now as enter_now, lent_entry as enter_entry, lent_exit as enter_exit};
 ghost use Rattle.intake.specs.internal.Parts.{lent_now, lent_entry, lent_exit};
 ghost use Rattle.encoding.specs.Encoding.{one, message_at, message_call, invocation_of, answer_size};
 ghost use Rattle.encoding.specs.internal.Running.{PutBy, step_entry};
@@ -140,11 +140,11 @@ fn make(
     from: usize,
 ) -> usize
     requires invoke_asks { InvokeAsks own committed (own_now awaiting events clock)
-        (enterNow ordered executed held known clocks askings contexts order) }
+        (enter_now ordered executed held known clocks askings contexts order) }
     requires answer_size_in_bounds { from + answer_size ≤ length out.old }
     ensures { PutBy
-        (invoke_parts own committed (own_entry awaiting events clock) (enterEntry ordered executed held known clocks askings contexts order))
-        (invoke_parts own committed (own_exit awaiting events clock) (enterExit ordered executed held known clocks askings contexts order))
+        (invoke_parts own committed (own_entry awaiting events clock) (enter_entry ordered executed held known clocks askings contexts order))
+        (invoke_parts own committed (own_exit awaiting events clock) (enter_exit ordered executed held known clocks askings contexts order))
         (one (invoke (invocation_of (message_at s.now at).request))) out.old from out.new result }
 {
     let asked = encoding::invocation_at(s, at);

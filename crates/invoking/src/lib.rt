@@ -8,7 +8,7 @@ ghost use Rattle.std.proofs.Math.Seq.{slice};
 ghost use Rattle.sets.specs.Sets.{set_of};
 ghost use Rattle.ordering.specs.Slots.{Part};
 ghost use Rattle.creek.specs.Plan.{at_least};
-ghost use Rattle.creek.specs.Replies.{spread as spreadAnswer};
+ghost use Rattle.creek.specs.Replies.{spread as spread_answer};
 ghost use Rattle.invoking.specs.Invoking.{InvokeRefused, context_without, request_for, own_now, own_entry, own_exit};
 ghost use Rattle.entering.specs.Entering.{lent_now, lent_entry, lent_exit};
 ghost use Rattle.invoking.specs.Invoking.{InvokeAsks, InvokeKept};
@@ -140,7 +140,7 @@ fn request_for(number: Number, i: Invocation, context: Context) -> Request
 
 // The answer that x is to be spread.
 fn spread(x: Request) -> Answer
-    ensures { result ≡ spreadAnswer x }
+    ensures { result ≡ spread_answer x }
 {
     Answer {
         request: x,

@@ -5,7 +5,7 @@
 ghost use Rattle.std.specs.Prelude.{◌≡◌, length};
 ghost use Rattle.numbers.specs.Numbers.{most_panels};
 ghost use Rattle.numbers.specs.internal.Slots.{number_of, GoodNumber};
-ghost use Rattle.sets.specs.Sets.{set_of, mask_of, names_from, member as memberOf, join as joined, leave as left};
+ghost use Rattle.sets.specs.Sets.{set_of, mask_of, names_from, member as member_of, join as joined, leave as left};
 
 use numbers::Number;
 
@@ -14,7 +14,7 @@ const WORDS: usize = numbers::MOST_PANELS as usize;
 
 // Whether n is in the set.
 pub fn member(words: &[u64; 8], n: Number) -> bool
-    ensures { result ≡ memberOf (set_of words.now) n }
+    ensures { result ≡ member_of (set_of words.now) n }
 {
     if numbers::bad(numbers::MOST_PANELS, n) {
         return false;
@@ -32,7 +32,7 @@ const EVENTS: u16 = numbers::MOST_EVENTS as u16;
 
 // Whether the number of that slot is in the set, by the slot's digits: a slot's number is good, so that there is nothing to test.
 pub fn member_at(words: &[u64; 8], slot: u16) -> bool
-    ensures { result ≡ memberOf (set_of words.now) (number_of slot) }
+    ensures { result ≡ member_of (set_of words.now) (number_of slot) }
 {
     let panel = (slot / EVENTS % PANELS) as usize;
     let bit = (slot % EVENTS) as u64;

@@ -10,7 +10,7 @@ pub mod opening;
 pub mod showing;
 
 ghost use Rattle.std.specs.Prelude.{◌≡◌};
-ghost use Rattle.creek.specs.Book.{undo as undoCall, execute as executeCall, deliver as deliverCall, invoke as invokeCall, commit as commitCall};
+ghost use Rattle.creek.specs.Book.{undo as undo_call, execute as execute_call, deliver as deliver_call, invoke as invoke_call, commit as commit_call};
 ghost use Rattle.replica.specs.Promises.{Fresh, Kept};
 ghost use Rattle.replica.specs.internal.Model.{Inv};
 ghost use Rattle.due.specs.Due.{RunDue};
@@ -96,7 +96,7 @@ pub extern "C" fn mizzencord_fresh(p: &mut Panel, panels: u8, own: PanelNo) -> u
 #[unsafe(no_mangle)]
 pub extern "C" fn mizzencord_invoke(p: &mut Panel, i: Invocation) -> Answer
     requires { Inv (memory p.old) }
-    ensures { Kept (memory p.old) (invokeCall i) (record { answer = result; state = memory p.new })
+    ensures { Kept (memory p.old) (invoke_call i) (record { answer = result; state = memory p.new })
         × SameSpare p.old p.new }
 {
     invoking::invoke(
@@ -121,7 +121,7 @@ pub extern "C" fn mizzencord_invoke(p: &mut Panel, i: Invocation) -> Answer
 #[unsafe(no_mangle)]
 pub extern "C" fn mizzencord_deliver(p: &mut Panel, x: Request) -> Answer
     requires { Inv (memory p.old) }
-    ensures { Kept (memory p.old) (deliverCall x) (record { answer = result; state = memory p.new })
+    ensures { Kept (memory p.old) (deliver_call x) (record { answer = result; state = memory p.new })
         × SameSpare p.old p.new }
 {
     delivering::deliver_request(
@@ -144,7 +144,7 @@ pub extern "C" fn mizzencord_deliver(p: &mut Panel, x: Request) -> Answer
 #[unsafe(no_mangle)]
 pub extern "C" fn mizzencord_commit(p: &mut Panel, n: Number) -> Answer
     requires { Inv (memory p.old) }
-    ensures { Kept (memory p.old) (commitCall n) (record { answer = result; state = memory p.new })
+    ensures { Kept (memory p.old) (commit_call n) (record { answer = result; state = memory p.new })
         × SameSpare p.old p.new }
 {
     committing::commit_answer(
@@ -200,7 +200,7 @@ pub extern "C" fn mizzencord_receive(p: &mut Panel, bytes: &[u8], at: usize) -> 
 #[unsafe(no_mangle)]
 pub extern "C" fn mizzencord_undo(p: &mut Panel) -> Answer
     requires { Inv (memory p.old) }
-    ensures { Kept (memory p.old) undoCall (record { answer = result; state = memory p.new })
+    ensures { Kept (memory p.old) undo_call (record { answer = result; state = memory p.new })
         × SameSpare p.old p.new }
 {
     let done = steps::undo_step(
@@ -219,7 +219,7 @@ pub extern "C" fn mizzencord_undo(p: &mut Panel) -> Answer
 #[unsafe(no_mangle)]
 pub extern "C" fn mizzencord_execute(p: &mut Panel) -> Answer
     requires { Inv (memory p.old) }
-    ensures { Kept (memory p.old) executeCall (record { answer = result; state = memory p.new })
+    ensures { Kept (memory p.old) execute_call (record { answer = result; state = memory p.new })
         × SameSpare p.old p.new }
 {
     let done = steps::execute_step(

@@ -20,7 +20,7 @@ ghost use Rattle.std.specs.Prelude.{◌≡◌, min};
 ghost use Rattle.numbers.specs.Numbers.{no_number};
 ghost use Rattle.sets.specs.Sets.{set_of};
 ghost use Rattle.creek.specs.Calls.{bad_shop};
-ghost use Rattle.creek.specs.Replies.{refused_with, reply as replyOf, reply_answer, reply_in, steps_done, awaiting_after};
+ghost use Rattle.creek.specs.Replies.{refused_with, reply as reply_of, reply_answer, reply_in, steps_done, awaiting_after};
 ghost use Rattle.replica.specs.Promises.{Fresh};
 ghost use Rattle.replica.specs.internal.Parts.{opened_by, opened_with_zeros};
 
@@ -214,7 +214,7 @@ pub fn refused(refusal: u8) -> Answer
 
 // The answer of an accepted call about n.
 pub fn reply(n: Number, response: u32, mark: u8) -> Answer
-    ensures { result ≡ replyOf n response mark }
+    ensures { result ≡ reply_of n response mark }
 {
     Answer {
         refusal: refusal::ACCEPTED,

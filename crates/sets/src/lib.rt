@@ -5,7 +5,7 @@
 
 ghost use Rattle.std.specs.Prelude.{◌≡◌};
 ghost use Rattle.sets.specs.Sets.{empty_set, is_empty, names_from};
-ghost use Rattle.sets.specs.Sets.{difference as differenceOf, subset, lowest as lowestOf, lowest_lacking};
+ghost use Rattle.sets.specs.Sets.{difference as difference_of, subset, lowest as lowest_of, lowest_lacking};
 
 use numbers::{EventNo, Number, PanelNo};
 
@@ -49,7 +49,7 @@ pub fn is_empty(s: Context) -> bool
 
 // The numbers that s has and t lacks.
 pub fn difference(s: Context, t: Context) -> Context
-    ensures { result ≡ differenceOf s t }
+    ensures { result ≡ difference_of s t }
 {
     let mut d = s;
     let mut i = 0;
@@ -71,7 +71,7 @@ pub fn is_subset(s: Context, t: Context) -> bool
 
 // The lowest number of s, lowest panel and then lowest event; 0/0 where s is empty.
 pub fn lowest(s: Context) -> Number
-    ensures { result ≡ lowestOf s }
+    ensures { result ≡ lowest_of s }
 {
     let mut panel: u8 = 0;
     while panel < numbers::MOST_PANELS {

@@ -1,6 +1,6 @@
 // Messages as the code holds them: made of a request or of the number to settle, their kind and their size.
 ghost use Rattle.std.specs.Prelude.{◌≡◌};
-ghost use Rattle.wire.specs.Message.{request as requestMessage, settlement, kind_of, size_of, as_message, no_message, said};
+ghost use Rattle.wire.specs.Message.{request as request_message, settlement, kind_of, size_of, as_message, no_message, said};
 
 use super::{Kind, Message, Subject, layout};
 use numbers::Number;
@@ -8,7 +8,7 @@ use request::Request;
 
 // The message that spreads r.
 pub fn of_request(r: Request) -> Message
-    ensures { result ≡ as_message (requestMessage r) }
+    ensures { result ≡ as_message (request_message r) }
 {
     Message {
         subject: Subject::Request,
@@ -57,7 +57,7 @@ pub fn size_of(m: Message) -> usize
 
 // The kind of the message that spreads r.
 fn kind_of_request(r: Request) -> Kind
-    ensures { result ≡ kind_of (requestMessage r) }
+    ensures { result ≡ kind_of (request_message r) }
 {
     if r.asked.strong {
         return Kind::Strong;

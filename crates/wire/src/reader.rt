@@ -1,7 +1,7 @@
 // The reader: one message from a lent run of bytes and a place in it, by its head and then its fields. It judges layout only.
 ghost use Rattle.std.specs.Prelude.{◌≡◌};
 ghost use Rattle.wire.specs.Message.{as_message};
-ghost use Rattle.wire.specs.Reader.{answered, untaken as untakenBy, refusal_of, read_at};
+ghost use Rattle.wire.specs.Reader.{answered, untaken as untaken_by, refusal_of, read_at};
 ghost use Rattle.wire.specs.Head.{GoodHead, message_at};
 
 use super::{HeadAnswer, Kind, Message, ReadAnswer, Reading, heads, messages};
@@ -64,7 +64,7 @@ fn message_at(s: &[u8], at: usize, kind: Kind) -> Message
 
 // An answer that takes nothing.
 fn untaken(answer: ReadAnswer) -> Reading
-    ensures { result ≡ untakenBy answer }
+    ensures { result ≡ untaken_by answer }
 {
     Reading {
         answer: answer,

@@ -5,7 +5,7 @@ ghost use Rattle.std.specs.Prelude.{◌≡◌, ◌≤◌, ◌∷◌, [], length}
 ghost use Rattle.std.proofs.lemmas.List.Edits.{sets as put};
 ghost use Rattle.wire.specs.Layout.{kind_number};
 ghost use Rattle.fields.specs.Widths.{head_widths, head_size, encode};
-ghost use Rattle.wire.specs.Message.{request as requestMessage, said, bytes_of, weak_with_context};
+ghost use Rattle.wire.specs.Message.{request as request_message, said, bytes_of, weak_with_context};
 ghost use Rattle.wire.specs.Writer.{Wrote};
 ghost use Rattle.wire.specs.internal.PutAsks.{PutAsks};
 
@@ -51,7 +51,7 @@ fn weak_with_context(m: Message) -> bool
 
 // Whether r is weak and has a context.
 fn weak_request_with_context(r: Request) -> bool
-    ensures { result ≡ weak_with_context (requestMessage r) }
+    ensures { result ≡ weak_with_context (request_message r) }
 {
     if r.asked.strong {
         return false;
