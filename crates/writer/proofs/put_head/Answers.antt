@@ -11,7 +11,5 @@ put_integer-requires-2 c = omega arith
 
 pub returns : goal.returns
 returns c =
-    let second = c.before.before.before in
-    let first = second.before.before.before.before in
-    rw (← first.kind_number-number.ensures)
-    (field_then _ _ _ _ _ _ _ _ first.put_integer.ensures (field_last _ _ _ _ _ second.put_integer-2.ensures))
+    rw (← c.kind_number-number.ensures)
+    (field_then _ _ _ _ _ _ _ _ c.put_integer.ensures (field_last _ _ _ _ _ c.put_integer-2.ensures))

@@ -6,9 +6,9 @@ use Rattle.writer.proofs.weak_with_context.Goals as goal
 
 pub returns-in-Request : goal.returns-in-Request
 returns-in-Request c =
-    let told = c.enum_told-1.given.1 in
+    let told = c.in-Request.is in
     c.weak_request_with_context.ensures ∙ sym (ap weak_with_context (said-request c.args.m told))
 
 pub returns-in-Settlement : goal.returns-in-Settlement
 unfolding weak_with_context
-returns-in-Settlement c = sym (ap weak_with_context (said-settlement c.args.m c.enum_told-in-Settlement-1.given.1))
+returns-in-Settlement c = sym (ap weak_with_context (said-settlement c.args.m c.in-Settlement.is))
