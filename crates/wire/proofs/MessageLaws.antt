@@ -1,18 +1,12 @@
 -- Laws of messages as the code holds them: which message one says, what its bytes are, and that its fields fit.
-use Prim.Native.Nat.{ℕ, zero, suc, ◌^◌, ◌≤◌, ◌<◌}
+use Prim.Native.Nat.{ℕ, ◌^◌, ◌≤◌, ◌<◌}
 use native.Mathlib.Omega.{arith}
 use mathlib.Core.Path.{◌≡◌, refl, ap}
 use mathlib.Core.Bool.{Bool, true, false, cond}
-use mathlib.Core.List.{List, [], ◌∷◌, ◌++◌, map}
-use borrow.Author.Rules.{rules}
+use mathlib.Core.List.{List, [], ◌∷◌, ◌++◌}
 use lib.Dec.{lit<, lit≤}
-use lib.ListN.{get_or}
-use mir.Val.{Val}
-use denote.Array.{each}
-use denote.Builtin.{u64}
-use denote.Shadow.{shadow}
 use Rattle.request.specs.declared.Request.{Request}
-use Rattle.numbers.specs.Numbers.{most_panels, most_events}
+use Rattle.numbers.specs.Numbers.{most_panels}
 use Rattle.sets.specs.Sets.{Words}
 use Rattle.wire.specs.declared.Message.{Message}
 use Rattle.wire.specs.declared.Subject.{Subject}
@@ -121,14 +115,3 @@ said_fits m h = by m.subject
     by : (x : Subject) → Fits (about x m.request)
     by a_request = request_fits m.request h
     by a_settlement = settlement_fits m.request h
-
--- ---- for the crate below
-
--- every element of an array of u64 is one, by what owning the array tells
-pub array_small : (ws : List ℕ) (vs : List Val) → shadow (each ℕ u64.own_val (map (λ (w : ℕ). w) ws) vs)
-    → (p : ℕ) → get_or ws p 0 < 2 ^ most_events
-array_small [] [] h p = lit< tt
-array_small [] (v ∷ vs) h p = absurd h
-array_small (w ∷ ws) [] h p = absurd h
-array_small (w ∷ ws) (v ∷ vs) h zero = search rules
-array_small (w ∷ ws) (v ∷ vs) h (suc p) = array_small ws vs h.1 p

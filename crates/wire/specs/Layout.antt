@@ -8,9 +8,8 @@ use Rattle.wire.specs.declared.Kind.{Kind}
 use Rattle.wire.specs.declared.Kind.TheVariants.{Weak, Strong, Settlement}
 use Rattle.wire.specs.declared.KindTold.{KindTold}
 use Rattle.wire.specs.declared.KindTold.TheVariants.{Known, Unknown}
-use Rattle.fields.specs.Widths.{decode, encode}
-use Rattle.fields.specs.Widths.{head_widths, number_widths, body_widths, byte_width, word_width, context_widths, size, Within}
-use Rattle.fields.specs.Widths.{length_field, kind_field, spare_field, context_field, head_fields, head_size}
+use Rattle.fields.specs.Widths.{head_widths, number_widths, body_widths, byte_width, context_widths, size}
+use Rattle.fields.specs.Widths.{spare_field}
 
 -- ---- the table
 

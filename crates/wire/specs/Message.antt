@@ -12,7 +12,7 @@ use Rattle.wire.specs.declared.Subject.{Subject}
 use Rattle.wire.specs.declared.Subject.TheVariants.{Request as a_request, Settlement as a_settlement}
 use Rattle.wire.specs.Layout.{kind_number, layout, widths_with}
 use Rattle.fields.specs.Widths.{size, encode, Within, context_field}
-use Rattle.fields.specs.Contents.{spare_byte, number_fields, body_fields, number_from, request_from}
+use Rattle.fields.specs.Contents.{number_fields, body_fields, number_from, request_from}
 
 -- a bus message: a request, weak or strong, or the settlement of a number
 pub data BusMessage : Type 0 where

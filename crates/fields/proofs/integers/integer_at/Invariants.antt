@@ -1,12 +1,7 @@
 -- `integers::integer_at` meets its contract: the loop goes down, and v is the integer in the bytes from i on.
-use Prim.Native.Nat.{ℕ, suc, ◌+◌, ◌-◌, ◌*◌, ◌^◌, ◌≤◌, ◌<◌}
-use mathlib.Core.Path.{◌≡◌, refl, ◌∙◌}
-use native.Mathlib.Nat.{add-zero, sub-zero}
-use native.Mathlib.Omega.{arith}
-use lib.Dec.{lit<}
-use lib.ListN.{get_or}
+use Prim.Native.Nat.{◌+◌, ◌-◌, ◌^◌, ◌≤◌, ◌<◌}
+use mathlib.Core.Path.{◌≡◌}
 use Rattle.fields.specs.Integers.{integer_at}
-use Rattle.fields.proofs.IntegerLaws.{integer_down, one_more_within, pow-widest}
 use Rattle.fields.proofs.integers.integer_at.Given as goal
 
 abbrev pub invariant-loop-i : goal.invariant-loop-i

@@ -1,10 +1,9 @@
 -- `integers::put_integer` meets its contract: putting what is left from i on equals putting the whole.
-use Prim.Native.Nat.{◌+◌, ◌-◌, ◌≤◌}
+use Prim.Native.Nat.{◌-◌}
 use mathlib.Core.Path.{◌≡◌, refl, ◌∙◌}
 use native.Mathlib.Nat.{add-zero, sub-zero}
 use native.Mathlib.Omega.{arith}
-use lib.ListN.{length, length-set}
-use lib.Seq.{sets}
+use lib.ListN.{length-set}
 use Rattle.fields.specs.Integers.{integer_bytes}
 use Rattle.fields.proofs.IntegerLaws.{byte_put}
 use Rattle.fields.proofs.integers.put_integer.Goals as goal

@@ -1,12 +1,9 @@
 -- `integers::put_integer` meets its contract: putting what is left from i on equals putting the whole.
 use Prim.Native.Nat.{◌+◌, ◌-◌, ◌≤◌}
-use mathlib.Core.Path.{◌≡◌, refl, ◌∙◌}
-use native.Mathlib.Nat.{add-zero, sub-zero}
-use native.Mathlib.Omega.{arith}
-use lib.ListN.{length, length-set}
+use mathlib.Core.Path.{◌≡◌}
+use lib.ListN.{length}
 use lib.Seq.{sets}
 use Rattle.fields.specs.Integers.{integer_bytes}
-use Rattle.fields.proofs.IntegerLaws.{byte_put}
 use Rattle.fields.proofs.integers.put_integer.Given as goal
 
 abbrev pub invariant-loop-i : goal.invariant-loop-i

@@ -1,13 +1,12 @@
 -- `reading::words_at` meets its contract: reading the words from the p-th on equals reading them all.
-use Prim.Native.Nat.{◌+◌, ◌-◌, ◌*◌, ◌≤◌}
+use Prim.Native.Nat.{◌-◌}
 use mathlib.Core.Path.{◌≡◌, sym, ◌∙◌}
 use native.Mathlib.Omega.{arith}
-use lib.ListN.{length, length-set}
-use lib.Seq.{sets}
+use lib.ListN.{length-set}
 use Rattle.lists.proofs.PlaceLaws.{sets_all}
 use Rattle.numbers.specs.Numbers.{most_panels}
-use Rattle.fields.specs.Widths.{word_width, context_widths, decode}
-use Rattle.fields.proofs.WidthLaws.{length-decode, words_from, word_read}
+use Rattle.fields.specs.Widths.{context_widths, decode}
+use Rattle.fields.proofs.WidthLaws.{length-decode, word_read}
 use Rattle.fields.proofs.reading.words_at.Goals as goal
 
 pub loop-p-init : goal.loop-p-init

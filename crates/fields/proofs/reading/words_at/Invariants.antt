@@ -1,13 +1,11 @@
 -- `reading::words_at` meets its contract: reading the words from the p-th on equals reading them all.
 use Prim.Native.Nat.{◌+◌, ◌-◌, ◌*◌, ◌≤◌}
-use mathlib.Core.Path.{◌≡◌, sym, ◌∙◌}
-use native.Mathlib.Omega.{arith}
-use lib.ListN.{length, length-set}
+use mathlib.Core.Path.{◌≡◌}
+use lib.ListN.{length}
 use lib.Seq.{sets}
-use Rattle.lists.proofs.PlaceLaws.{sets_all}
 use Rattle.numbers.specs.Numbers.{most_panels}
 use Rattle.fields.specs.Widths.{word_width, context_widths, decode}
-use Rattle.fields.proofs.WidthLaws.{length-decode, words_from, word_read}
+use Rattle.fields.proofs.WidthLaws.{words_from}
 use Rattle.fields.proofs.reading.words_at.Given as goal
 
 abbrev pub invariant-loop-p : goal.invariant-loop-p

@@ -1,13 +1,13 @@
 -- `writing::put_context` meets its contract: writing the words from the p-th on equals writing them all.
 use mathlib.Core.List.{List}
-use Prim.Native.Nat.{ℕ, ◌+◌, ◌-◌, ◌*◌, ◌≤◌}
+use Prim.Native.Nat.{ℕ, ◌+◌, ◌-◌}
 use mathlib.Core.Path.{◌≡◌, refl, ap, ◌∙◌}
 use native.Mathlib.Omega.{arith}
 use borrow.Author.Rules.{rules}
 use lib.ListN.{length, drop}
 use lib.Seq.{sets}
 use Rattle.numbers.specs.Numbers.{most_panels}
-use Rattle.fields.specs.Widths.{word_width, context_widths, size, encode, weak_widths}
+use Rattle.fields.specs.Widths.{word_width, encode}
 use Rattle.fields.proofs.WidthLaws.{words_from, word_put}
 use Rattle.fields.proofs.writing.put_context.Goals as goal
 

@@ -1,13 +1,11 @@
 -- `writing::put_context` meets its contract: writing the words from the p-th on equals writing them all.
-use mathlib.Core.List.{List}
-use Prim.Native.Nat.{ℕ, ◌+◌, ◌-◌, ◌*◌, ◌≤◌}
-use mathlib.Core.Path.{◌≡◌, refl, ap, ◌∙◌}
-use native.Mathlib.Omega.{arith}
+use Prim.Native.Nat.{◌+◌, ◌-◌, ◌*◌, ◌≤◌}
+use mathlib.Core.Path.{◌≡◌}
 use lib.ListN.{length, drop}
 use lib.Seq.{sets}
 use Rattle.numbers.specs.Numbers.{most_panels}
 use Rattle.fields.specs.Widths.{word_width, context_widths, size, encode, weak_widths}
-use Rattle.fields.proofs.WidthLaws.{words_from, word_put}
+use Rattle.fields.proofs.WidthLaws.{words_from}
 use Rattle.fields.proofs.writing.put_context.Given as goal
 
 abbrev pub invariant-loop-p : goal.invariant-loop-p

@@ -3,11 +3,9 @@ use Prim.Native.Nat.{ℕ, ◌+◌}
 use mathlib.Core.List.{List}
 use mathlib.Core.Path.{◌≡◌, sym, ap, ◌∙◌}
 use native.Mathlib.Nat.{add-zero}
-use native.Mathlib.Omega.{arith}
-use Rattle.request.specs.Refusal as refusal
 use Rattle.fields.specs.Integers.{integer_at}
 use Rattle.fields.specs.Widths.{decode}
-use Rattle.wire.specs.Reader.{refused, refusal_as, length_at}
+use Rattle.wire.specs.Reader.{refused, length_at}
 use Rattle.wire.specs.Head.{head_of}
 use Rattle.wire.proofs.ReaderLaws.{refused_as, read_as_lem}
 use Rattle.wire.proofs.KindLaws.{kind_laws}

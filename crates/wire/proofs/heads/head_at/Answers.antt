@@ -8,7 +8,7 @@ use Rattle.wire.specs.declared.KindTold.{KindTold}
 use Rattle.wire.specs.Layout.{kind_with, told}
 use Rattle.fields.specs.Integers.{integer_at}
 use Rattle.fields.specs.Widths.{decode}
-use Rattle.wire.specs.Reader.{kind_at, read_with, read_at}
+use Rattle.wire.specs.Reader.{kind_at}
 use Rattle.wire.specs.Head.{head_of}
 use Rattle.wire.proofs.LayoutLaws.{told_known, told-unknown}
 use Rattle.wire.proofs.ReaderLaws.{at-end, head_cut, of_option}

@@ -1,10 +1,7 @@
 -- `heads::refusal_as` meets its contract, refusal by refusal.
-use Prim.Native.Nat.{◌-◌, ◌≤◌}
 use mathlib.Core.Path.{sym, ◌∙◌}
 use native.Mathlib.Omega.{arith}
-use lib.ListN.{length}
-use Rattle.wire.specs.Layout.{least_size, most_size}
-use Rattle.wire.specs.Reader.{length_at}
+use Rattle.wire.specs.Layout.{most_size}
 use Rattle.wire.proofs.ReaderLaws.{too_short, too_long, cut_short_lem, spare-set, laid_out}
 use Rattle.wire.proofs.heads.refusal_as.Goals as goal
 
