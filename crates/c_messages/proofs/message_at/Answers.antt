@@ -1,4 +1,6 @@
--- `bytes::message_at` meets its contract, kind by kind.
+-- `message_at` meets its contract, kind by kind.
+use Prim.Native.Nat.{ℕ}
+use mathlib.Core.List.{List}
 use mathlib.Core.Path.{◌≡◌, ap, ◌∙◌}
 use native.Mathlib.Omega.{arith}
 use Rattle.wire.specs.declared.Kind.{Kind}
@@ -8,43 +10,37 @@ use Rattle.wire.specs.Message.{as_message}
 use Rattle.wire.specs.Head.{GoodHead}
 use Rattle.wire.proofs.HeadLaws.{weak_inside, strong_inside, settlement_inside, weak-message, strong-message, settlement-message}
 use Rattle.c_messages.proofs.message_at.Goals as goal
-use Rattle.c_messages.proofs.message_at.Goals.{After-shared_slice_known-1}
 
 -- the head is that of the kind told
-good : (c : After-shared_slice_known-1) (k : Kind) → c.args.kind ≡ k
-    → GoodHead k c.args.s.now c.args.at
-good c k e = c.requires ∙ ap Good e
+good : (s : List ℕ) (at : ℕ) (j k : Kind) → GoodHead j s at → j ≡ k → GoodHead k s at
+good s at j k h e = h ∙ ap Good e
 
 pub request_at-request-requires : goal.request_at-request-requires
-request_at-request-requires c = weak_inside _ _ (good c.before.before.before.before Weak c.enum_told-1.given.1)
+request_at-request-requires c = weak_inside _ _ (good _ _ _ Weak c.requires c.in-Weak.is)
 
 pub context_at-context-requires : goal.context_at-context-requires
-context_at-context-requires c = strong_inside _ _ (good c.before.before.before Strong c.enum_told-in-Strong-1.given.1)
+context_at-context-requires c = strong_inside _ _ (good _ _ _ Strong c.requires c.in-Strong.is)
 
 pub request_at-request-requires-in-Strong : goal.request_at-request-requires-in-Strong
-request_at-request-requires-in-Strong c = omega (arith, strong_inside _ _ (good c.before.before.before.before Strong c.enum_told-in-Strong-1.given.1))
+request_at-request-requires-in-Strong c = omega (arith, strong_inside _ _ (good _ _ _ Strong c.requires c.in-Strong.is))
 
 pub number_at-number-requires : goal.number_at-number-requires
-number_at-number-requires c = settlement_inside _ _ (good c.before.before.before Settlement c.enum_told-in-Settlement-1.given.1)
+number_at-number-requires c = settlement_inside _ _ (good _ _ _ Settlement c.requires c.in-Settlement.is)
 
 pub returns-in-Weak : goal.returns-in-Weak
 unfolding as_message
 returns-in-Weak c =
-    let told = c.enum_told-1.given.1 in
-    let makes = weak-message _ _ (good c.before.before.before.before.before Weak told) in
-    rw (told, makes, c.request_at-request.ensures, c.empty-context.ensures)
+    let makes = weak-message _ _ (good _ _ _ Weak c.requires c.in-Weak.is) in
+    rw (c.in-Weak.is, makes, c.request_at-request.ensures, c.empty-context.ensures)
 
 pub returns-in-Strong : goal.returns-in-Strong
 unfolding as_message
 returns-in-Strong c =
-    let told = c.enum_told-in-Strong-1.given.1 in
-    let makes = strong-message _ _ (good c.before.before.before.before.before Strong told) in
-    rw (told, makes, c.request_at-request-in-Strong.ensures, c.context_at-context.ensures)
+    let makes = strong-message _ _ (good _ _ _ Strong c.requires c.in-Strong.is) in
+    rw (c.in-Strong.is, makes, c.request_at-request-in-Strong.ensures, c.context_at-context.ensures)
 
 pub returns-in-Settlement : goal.returns-in-Settlement
 unfolding as_message
 returns-in-Settlement c =
-    let n = c.before.before in
-    let told = n.enum_told-in-Settlement-1.given.1 in
-    let makes = settlement-message _ _ (good n.before.before.before.before Settlement told) in
-    rw (told, makes, c.bare-request.ensures, n.number_at-number.ensures)
+    let makes = settlement-message _ _ (good _ _ _ Settlement c.requires c.in-Settlement.is) in
+    rw (c.in-Settlement.is, makes, c.bare-request.ensures, c.number_at-number.ensures)

@@ -1,4 +1,4 @@
--- `bytes::unread` meets its contract.
+-- `unread` meets its contract.
 use Rattle.wire.specs.Message.{no_message}
 use Rattle.c_messages.proofs.unread.Goals as goal
 

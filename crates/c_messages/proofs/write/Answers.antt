@@ -1,7 +1,5 @@
--- `mizzencord_write` meets its contract.
+-- `write` meets its contract.
 use Rattle.c_messages.proofs.write.Goals as goal
 
 pub returns : goal.returns
-returns c =
-    let wrote = c.before.before.before in
-    rw wrote.subject_of-subject.ensures at wrote.write.ensures
+returns c = rw c.subject_of-subject.ensures at c.write.ensures
