@@ -1,6 +1,5 @@
 -- `board::put_on` meets its contract.
 use mathlib.Core.Path.{refl, sym, ◌∙◌}
-use borrow.Author.Tests.{not-true, not-false}
 use Rattle.board.proofs.put_on.Goals as goal
 
 -- nobody awaits it
@@ -13,7 +12,7 @@ returns-then-not-member_at c =
       number = c.number_of-number.ensures;
       its-response = refl;
       refusal = refl;
-      mark = rw (sym c.member_at.ensures ∙ not-true _ c.if-not-member_at.true);
+      mark = rw (sym c.member_at.ensures ∙ c.if-not-member_at.true);
       waits = refl;
     }
 
@@ -27,6 +26,6 @@ returns c =
       number = c.number_of-number.ensures;
       its-response = refl;
       refusal = refl;
-      mark = c.mark_of-mark.ensures ∙ rw (sym c.member_at.ensures ∙ not-false _ c.if-not-member_at.false);
+      mark = c.mark_of-mark.ensures ∙ rw (sym c.member_at.ensures ∙ c.if-not-member_at.false);
       waits = c.end_waiting.ensures;
     }

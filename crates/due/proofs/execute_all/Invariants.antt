@@ -1,11 +1,7 @@
--- `due::execute_all` meets its contract.
-use Prim.Native.Nat.{◌-◌, ◌<◌}
-use native.Mathlib.Omega.{arith}
-use mathlib.Core.Path.{refl}
-use Rattle.due.specs.Due.{most_replies}
-use Rattle.steps.specs.Lent.{ExecuteLent, execute_with, execute_now}
-use Rattle.steps.proofs.StepParts.{NextAsks, Next, next_by}
-use Rattle.due.proofs.DueParts.{ExecutingParts, execute_start, execute_asks, execute-end, execute_quiet, execute_room, execute-replied}
+-- The invariant of the loop of `due::execute_all`, and its measure.
+use Prim.Native.Nat.{◌-◌}
+use Rattle.steps.specs.Lent.{execute_with}
+use Rattle.due.proofs.DueParts.{ExecutingParts}
 use Rattle.due.proofs.execute_all.Given as goal
 
 abbrev pub invariant-loop-at : goal.invariant-loop-at

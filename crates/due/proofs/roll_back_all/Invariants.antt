@@ -1,7 +1,6 @@
--- `due::roll_back_all` meets its contract.
-use native.Mathlib.Omega.{arith}
-use Rattle.steps.specs.Lent.{UndoLent, undo_with, undo_now}
-use Rattle.due.proofs.DueParts.{RollingParts, roll_start, roll_asks, roll_on, roll-end}
+-- The invariant of the loop of `due::roll_back_all`, and its measure.
+use Rattle.steps.specs.Lent.{undo_with}
+use Rattle.due.proofs.DueParts.{RollingParts}
 use Rattle.due.proofs.roll_back_all.Given as goal
 
 abbrev pub invariant-loop-left : goal.invariant-loop-left

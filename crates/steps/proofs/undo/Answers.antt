@@ -17,10 +17,11 @@ pub returns-then-executed-height : goal.returns-then-executed-height
 returns-then-executed-height c = undo_none (lent c.before.before.before) c.if-executed-height.true _ c.refusing.ensures
 
 pub take_off-slot-requires : goal.take_off-slot-requires
-take_off-slot-requires c = let a = c.before.before.before.before in undo_top (lent a) a.requires (due c.before.before)
+take_off-slot-requires c =
+    let else = (goal.at.take_off-slot-requires c).Else-executed-height in
+    undo_top (lent else.before.before.before) c.requires (due else)
 
 pub returns : goal.returns
 returns c =
-    let off = c.before in
-    let else = off.before.before.before in
-    undo-done (lent else.before.before.before) (due else) off.take_off-slot.ensures _ c.number_of-number.ensures
+    let else = (goal.at.returns c).Else-executed-height in
+    undo-done (lent else.before.before.before) (due else) c.take_off-slot.ensures _ c.number_of-number.ensures

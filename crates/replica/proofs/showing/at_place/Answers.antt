@@ -25,12 +25,12 @@ pub offset_bounds-order-place : goal.offset_bounds-order-place
 offset_bounds-order-place c = omega (arith, inside c, c.requires.invariant.counts)
 
 pub bounds-order-place : goal.bounds-order-place
-bounds-order-place c = omega (arith, inside c, c.requires.invariant.counts)
+bounds-order-place c = omega (arith, inside (goal.at.bounds-order-place c).Else-place-ordered, c.requires.invariant.counts)
 
 pub request_at-request-requires : goal.request_at-request-requires
 request_at-request-requires c =
-    let else = c.before.before in
-    let a = else.before.before in
+    let else = (goal.at.request_at-request-requires c).Else-place-ordered in
+    let a = else.before in
     (order_slot (lent a) a.requires.invariant (a.args.place - 1) (omega (arith, inside else)), a.requires.invariant.lengths.requests)
 
 pub returns : goal.returns
