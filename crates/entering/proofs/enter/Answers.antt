@@ -7,17 +7,7 @@ use Rattle.replica.specs.State.{State}
 use Rattle.entering.specs.Entering.{lent_now, hearing}
 use Rattle.entering.proofs.EnteringLaws.{slot_is, insertion_asks, entered_by}
 use Rattle.entering.proofs.enter.Goals as goal
-use Rattle.entering.proofs.enter.Goals.{After-insert_at, After-know, After-put_request, Start}
-
--- ---- the places of the call
-abbrev start : After-insert_at → Start
-start c = c.before.before.before
-
-abbrev inserted : After-know → After-insert_at
-inserted c = c.before.before.before.before.before
-
-abbrev known : After-put_request → After-know
-known c = c.before.before.before.before
+use Rattle.entering.proofs.enter.Goals.{Start}
 
 -- a panel with the parts lent, and the request
 abbrev lent : Start → State
@@ -31,27 +21,25 @@ heard a = request_of (number_of a.args.slot) a.args.clock a.args.asked a.args.wo
 -- ---- what the function needs
 pub insert_at-requires : goal.insert_at-requires
 insert_at-requires c =
-    let a = c.before.before.before in
-    insertion_asks (lent a) (heard a) a.requires.invariant a.requires.enters _ _ a.requires.its_slot a.requires.its_place
+    let a = (goal.at.insert_at-requires c).Start in
+    insertion_asks (lent a) (heard a) c.requires.invariant c.requires.enters _ _ c.requires.its_slot c.requires.its_place
 
 pub put_request-requires : goal.put_request-requires
 put_request-requires c =
-    let a = start (inserted c.before.before.before.before) in (
-      rw a.requires.its_slot (slot_is (lent a) (heard a) a.requires.invariant a.requires.enters),
-      a.requires.invariant.lengths.requests,
-      a.requires.words,
+    let a = (goal.at.put_request-requires c).Start in (
+      rw c.requires.its_slot (slot_is (lent a) (heard a) c.requires.invariant c.requires.enters),
+      c.requires.invariant.lengths.requests,
+      c.requires.words,
     )
 
 pub overflow_add-grown : goal.overflow_add-grown
-overflow_add-grown c = let a = start (inserted (known c)) in omega (arith, a.requires.enters.room)
+overflow_add-grown c = omega (arith, c.requires.enters.room)
 
 pub returns : goal.returns
 returns c =
-    let stored = c.before.before in
-    let knows = known stored in
-    let a = start (inserted knows) in
+    let a = (goal.at.returns c).Start in
     record {
       kept = λ p inv enters place.
-          entered_by _ (heard a) inv enters _ _ a.requires.its_slot place _ (inserted knows).insert_at.ensures
-          stored.put_request.ensures knows.join_at.ensures knows.know.ensures c.lower-kept.ensures;
+          entered_by _ (heard a) inv enters _ _ c.requires.its_slot place _ c.insert_at.ensures c.put_request.ensures c.join_at.ensures
+          c.know.ensures c.lower-kept.ensures;
     }
