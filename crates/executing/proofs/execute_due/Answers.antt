@@ -13,8 +13,8 @@ returns-then-off_board c = executed_off _ _ (sym c.off_board.ensures ∙ c.if-of
 
 pub execute_other-requires : goal.execute_other-requires
 execute_other-requires c =
-    record { on = on (goal.at.execute_other-requires c).Else-off_board; other = sym c.on_one_register.ensures ∙ c.if-not-on_one_register.true }
+    record { on = on (goal.at.execute_other-requires c).Else-off_board; other = cc }
 
 pub execute_one-requires : goal.execute_one-requires
 execute_one-requires c =
-    record { on = on (goal.at.execute_one-requires c).Else-off_board; one = sym c.on_one_register.ensures ∙ c.if-not-on_one_register.false }
+    record { on = on (goal.at.execute_one-requires c).Else-off_board; one = cc }
