@@ -5,5 +5,4 @@ use Rattle.request.proofs.asks.same.Goals as goal
 pub returns : goal.returns
 unfolding same_asked
 returns c =
-    let same = c.before.before in
-    rw (same.same-operations.ensures, same.operation-2.ensures, same.operation.ensures)
+    rw (c.same-operations.ensures, c.operation-2.ensures, c.operation.ensures)

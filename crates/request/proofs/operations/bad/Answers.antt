@@ -88,6 +88,4 @@ returns-then-code-eq-MOVE c = bad-move c.args.o c.if-r-q.false c.if-code-eq-MOVE
 
 pub returns : goal.returns
 returns c =
-    let else = c.before in
-    let inside = else.before.before in
-    rw c.span-registers.ensures (bad_together inside.args.o inside.if-r-q.false else.if-code-le-CLAIM.false else.if-code-eq-MOVE.false)
+    rw c.span-registers.ensures (bad_together c.args.o c.if-r-q.false c.if-code-le-CLAIM.false c.if-code-eq-MOVE.false)
