@@ -2,7 +2,4 @@
 use Rattle.encoding.proofs.answers.put_steps.Goals as goal
 
 pub returns : goal.returns
-returns c =
-    let put = c.before.before.before in
-    let told = put.before.before in
-    rw (rw told.none.ensures at told.reply-answer.ensures) at put.put_answer.ensures
+returns c = rw (rw c.none.ensures at c.reply-answer.ensures) at c.put_answer.ensures
