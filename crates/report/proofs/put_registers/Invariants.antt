@@ -1,10 +1,8 @@
 -- `put_registers` meets its contract: what is still to be put from register i on makes of out what all the registers' lines make of it.
 use Prim.Native.Nat.{◌≤◌, ◌-◌}
-use native.Mathlib.Omega.{arith}
 use lib.ListN.{length, drop}
-use Rattle.text.proofs.PlacedLaws.{Left, left_start, left_room, left_step, left_end}
+use Rattle.text.proofs.PlacedLaws.{Left}
 use Rattle.report.specs.Lines.{register_lines_from, register_lines}
-use Rattle.report.proofs.RegisterLaws.{registers_on, registers-end}
 use Rattle.report.proofs.put_registers.Given as goal
 
 abbrev pub invariant-loop-i : goal.invariant-loop-i
