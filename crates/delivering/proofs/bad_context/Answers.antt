@@ -5,7 +5,6 @@ use mathlib.Core.Bool.{Bool, true, false, not, ◌||◌}
 use mathlib.Core.List.{List, [], ◌∷◌}
 use lib.ListN.{drop}
 use lib.Dec.{eqb}
-use borrow.Author.Tests.{not-true, not-false}
 use Rattle.lists.proofs.BoolLaws.{both_true}
 use Rattle.numbers.specs.declared.Number.{Number}
 use Rattle.sets.specs.declared.Context.{Context}
@@ -32,12 +31,9 @@ weak_bad p s n = go (all_zero s.words) refl
 pub returns-then-not-asked : goal.returns-then-not-asked
 unfolding bad_context
 returns-then-not-asked c =
-    rw (not-true c.args.asked.strong c.if-not-asked.true)
+    rw c.if-not-asked.true
     (c.names_from.ensures ∙ weak_bad c.args.panels (set_of c.args.words.now) c.args.number)
 
 pub returns : goal.returns
 unfolding bad_context
-returns c =
-    let itself = c.before in
-    let strong = not-false itself.args.asked.strong itself.if-not-asked.false in
-    rw (strong, itself.member-itself.ensures, c.names_from-outside.ensures)
+returns c = rw (c.if-not-asked.false, c.member-itself.ensures, c.names_from-outside.ensures)

@@ -1,6 +1,6 @@
 -- `delivering::deliver` meets its contract; its laws are in `DeliveringLaws`.
 use mathlib.Core.Path.{◌≡◌, refl, sym, ap, ◌∙◌}
-use mathlib.Core.Bool.{false}
+use mathlib.Core.Bool.{Bool, false}
 use mathlib.Core.Option.{some}
 use Rattle.numbers.specs.declared.Number.{Number}
 use Rattle.numbers.specs.Numbers.{most_panels}
@@ -21,55 +21,43 @@ use Rattle.entering.proofs.EnteringStates.{asks-numbered, kept-numbered}
 use Rattle.entering.proofs.EnteringLaws.{place_asks}
 use Rattle.delivering.proofs.DeliveringLaws.{judged_good, kept-judged, kept-held, heard_enters, kept_heard}
 use Rattle.delivering.proofs.deliver.Goals as goal
-use Rattle.delivering.proofs.deliver.Goals.{After-member_at, After-place-at, After-slot_of-slot, Else-member_at, Start}
+use Rattle.delivering.proofs.deliver.Goals.{After-slot_of-slot}
 
--- ---- the places of the call
-abbrev start : After-slot_of-slot → Start
-start c = c.before.before.before
-
-abbrev slotted : After-member_at → After-slot_of-slot
-slotted c = c.before.before
-
-abbrev unheld : After-place-at → Else-member_at
-unheld c = c.before.before.before.before.before
-
--- a panel with the parts lent
-abbrev lent : Start → State → State
-lent a =
-    deliver_parts a.args.panels a.args.own a.args.committed (lent_now a.args.ordered a.args.executed a.args.held
-    a.args.known a.args.clocks a.args.askings a.args.contexts a.args.order)
+-- a panel with the parts lent, from where the slot is known
+abbrev lent : After-slot_of-slot → State → State
+lent c =
+    deliver_parts c.args.panels c.args.own c.args.committed (lent_now c.args.ordered c.args.executed c.args.held
+    c.args.known c.args.clocks c.args.askings c.args.contexts c.args.order)
 
 -- the request under a number, and under its own
-abbrev numbered : Start → Number → Request
-numbered a n = request_of n a.args.clock a.args.asked a.args.words.now
+abbrev numbered : After-slot_of-slot → Number → Request
+numbered c n = request_of n c.args.clock c.args.asked c.args.words.now
 
-abbrev heard : Start → Request
-heard a = numbered a a.args.number
+abbrev heard : After-slot_of-slot → Request
+heard c = numbered c c.args.number
 
 -- ---- what is known there
-judged_new : (c : After-slot_of-slot) → judged (start c).args.panels (start c).args.own.0 (heard (start c)) ≡ refused.accepted
-judged_new c = let else = c.before in sym else.deliver_refusal-refusal.ensures ∙ else.if-refusal-ne-ACCEPTED.false
+judged_new : (c : After-slot_of-slot) → judged c.args.panels c.args.own.0 (heard c) ≡ refused.accepted
+judged_new c = sym c.deliver_refusal-refusal.ensures ∙ c.if-refusal-ne-ACCEPTED.false
 
-good : (c : After-slot_of-slot) → GoodNumber most_panels (start c).args.number
-good c = let a = start c in judged_good (lent a a.requires.parts.panel) (heard a) a.requires.parts.invariant (judged_new c)
+good : (c : After-slot_of-slot) → GoodNumber most_panels c.args.number
+good c = judged_good (lent c c.requires.parts.panel) (heard c) c.requires.parts.invariant (judged_new c)
 
 slot_of_is : (c : After-slot_of-slot) → IsSlot c.slot_of-slot.result
-slot_of_is c = rw c.slot_of-slot.ensures (slot_fits (start c).args.number (good c))
+slot_of_is c = rw c.slot_of-slot.ensures (slot_fits c.args.number (good c))
 
 -- the number is that of the slot
-number_is : (c : After-slot_of-slot) → number_of c.slot_of-slot.result ≡ (start c).args.number
-number_is c = ap number_of c.slot_of-slot.ensures ∙ number_of_slot (start c).args.number (good c)
+number_is : (c : After-slot_of-slot) → number_of c.slot_of-slot.result ≡ c.args.number
+number_is c = ap number_of c.slot_of-slot.ensures ∙ number_of_slot c.args.number (good c)
 
--- whether it is held
-member_is : (c : After-member_at) → let a = start (slotted c) in
-    c.member_at.result ≡ member (set_of a.args.held.now) a.args.number
-member_is c = c.member_at.ensures ∙ ap (member (set_of (start (slotted c)).args.held.now)) (number_is (slotted c))
+-- a number is held where that of its slot is
+held_is : (c : After-slot_of-slot) (b : Bool) → b ≡ member (set_of c.args.held.now) (number_of c.slot_of-slot.result)
+    → b ≡ member (set_of c.args.held.now) c.args.number
+held_is c b is = is ∙ ap (member (set_of c.args.held.now)) (number_is c)
 
-absent : (c : Else-member_at) → let a = start (slotted c.before) in member (set_of a.args.held.now) a.args.number ≡ false
-absent c = sym (member_is c.before) ∙ c.if-member_at.false
-
-enters : (c : Else-member_at) (p : State) → let a = start (slotted c.before) in Inv (lent a p) → Enters (lent a p) (heard a)
-enters c p inv = let slot = slotted c.before in heard_enters (lent (start slot) p) (heard (start slot)) inv (judged_new slot) (absent c)
+enters : (c : After-slot_of-slot) (p : State) → Inv (lent c p) → member (set_of c.args.held.now) c.args.number ≡ false
+    → Enters (lent c p) (heard c)
+enters c p inv absent = heard_enters (lent c p) (heard c) inv (judged_new c) absent
 
 -- ---- what the function needs
 pub deliver_refusal-refusal-requires : goal.deliver_refusal-refusal-requires
@@ -77,62 +65,58 @@ deliver_refusal-refusal-requires c = c.requires.long
 
 pub returns-then-refusal-ne-ACCEPTED : goal.returns-then-refusal-ne-ACCEPTED
 returns-then-refusal-ne-ACCEPTED c =
-    let a = c.before.before in
-    record { kept = λ p inv. kept-judged (lent a p) (heard a) inv _ _ c.deliver_refusal-refusal.ensures c.if-refusal-ne-ACCEPTED.true refl }
+    record {
+      kept = λ p inv.
+          kept-judged _ (request_of c.args.number c.args.clock c.args.asked c.args.words.now) inv _ _ c.deliver_refusal-refusal.ensures
+          c.if-refusal-ne-ACCEPTED.true refl;
+    }
 
 pub held_refusal-requires : goal.held_refusal-requires
-held_refusal-requires c =
-    let slot = slotted c.before.before.before.before in
-    let a = start slot in
-    (slot_of_is slot, a.requires.parts.invariant.lengths.requests, a.requires.long)
+held_refusal-requires c = (
+  slot_of_is (goal.at.held_refusal-requires c).After-slot_of-slot,
+  c.requires.parts.invariant.lengths.requests,
+  c.requires.long,
+)
 
 pub returns-then-member_at : goal.returns-then-member_at
 returns-then-member_at c =
-    let held = c.before.before.before.before in
-    let slot = slotted held.before in
-    let a = start slot in
-    let y = request_at a.args.clocks.now a.args.askings.now a.args.contexts.now slot.slot_of-slot.result in
+    let slot = (goal.at.returns-then-member_at c).After-slot_of-slot in
+    let y = request_at c.args.clocks.now c.args.askings.now c.args.contexts.now c.slot_of-slot.result in
     record {
       kept = λ p inv.
-          kept-held (lent a p) (heard a) inv (judged_new slot) (sym (member_is held.before) ∙ held.if-member_at.true) _
-          slot.slot_of-slot.ensures y refl _ _
-          (c.held_refusal.ensures
-          ∙ ap (λ (n : Number). held_refusal (some y) (numbered a n)) (number_is slot))
-          refl;
+          kept-held (lent slot p) (heard slot) inv (judged_new slot) (sym (held_is slot _ c.member_at.ensures) ∙ c.if-member_at.true) _
+          c.slot_of-slot.ensures y refl _ _
+          (c.held_refusal.ensures ∙ ap (λ (n : Number). held_refusal (some y) (numbered slot n)) (number_is slot)) refl;
     }
 
 pub place-at-requires : goal.place-at-requires
 place-at-requires c =
-    let else = c.before.before.before.before in
-    let slot = slotted else.before in
-    let a = start slot in
-    place_asks (lent a a.requires.parts.panel) (heard a) a.requires.parts.invariant
-    (enters else a.requires.parts.panel a.requires.parts.invariant) _ slot.slot_of-slot.ensures
+    let slot = (goal.at.place-at-requires c).After-slot_of-slot in
+    place_asks (lent slot c.requires.parts.panel) (heard slot) c.requires.parts.invariant
+    (enters slot c.requires.parts.panel c.requires.parts.invariant (sym (held_is slot _ c.member_at.ensures) ∙ c.if-member_at.false)) _
+    c.slot_of-slot.ensures
 
 pub enter-requires : goal.enter-requires
 enter-requires c =
-    let at = c.before.before.before.before.before.before.before.before.before in
-    let else = unheld at in
-    let slot = slotted else.before in
-    let a = start slot in
+    let slot = (goal.at.enter-requires c).After-slot_of-slot in
     asks-numbered (number_is slot) (record {
-      panel = standing a.args.panels a.args.own a.args.committed a.requires.parts.panel;
-      invariant = a.requires.parts.invariant;
-      enters = enters else a.requires.parts.panel a.requires.parts.invariant;
-      its_slot = slot.slot_of-slot.ensures;
-      its_place = at.place-at.ensures;
-      words = a.requires.long;
+      panel = standing c.args.panels c.args.own c.args.committed c.requires.parts.panel;
+      invariant = c.requires.parts.invariant;
+      enters =
+          enters slot c.requires.parts.panel c.requires.parts.invariant
+          (sym (held_is slot _ c.member_at.ensures) ∙ c.if-member_at.false);
+      its_slot = c.slot_of-slot.ensures;
+      its_place = c.place-at.ensures;
+      words = c.requires.long;
     })
 
 pub returns : goal.returns
 returns c =
-    let at = c.before.before.before.before.before.before.before.before.before in
-    let else = unheld at in
-    let slot = slotted else.before in
-    let a = start slot in
+    let slot = (goal.at.returns c).After-slot_of-slot in
+    let absent = sym (held_is slot _ c.member_at.ensures) ∙ c.if-member_at.false in
     record {
       kept = λ p inv.
-          kept_heard (lent a p) (heard a) inv (judged_new slot) (absent else) _
-          ((kept-numbered (number_is slot) c.enter.ensures).kept (standing a.args.panels a.args.own a.args.committed p)
-          inv (enters else p inv) at.place-at.ensures p.awaiting.words p.events p.clock) _ refl;
+          kept_heard (lent slot p) (heard slot) inv (judged_new slot) absent _
+          ((kept-numbered (number_is slot) c.enter.ensures).kept (standing c.args.panels c.args.own c.args.committed p)
+          inv (enters slot p inv absent) c.place-at.ensures p.awaiting.words p.events p.clock) _ refl;
     }

@@ -1,30 +1,23 @@
--- `delivering::judge` meets its contract.
-use mathlib.Core.Path.{◌≡◌, sym, ◌∙◌}
-use mathlib.Core.Bool.{false}
+-- `delivering::deliver_refusal` meets its contract.
+use mathlib.Core.Path.{sym, ◌∙◌}
 use borrow.Author.Tests.{eq-eqb, ne_eqb}
-use Rattle.numbers.specs.Numbers.{bad_number}
 use Rattle.creek.specs.Plan.{deliver_refusal}
 use Rattle.delivering.specs.Delivering.{judged}
 use Rattle.delivering.proofs.deliver_refusal.Goals as goal
-use Rattle.delivering.proofs.deliver_refusal.Goals.{Else-bad}
 
 pub returns-then-bad : goal.returns-then-bad
 unfolding judged deliver_refusal
 returns-then-bad c = rw (sym c.bad.ensures ∙ c.if-bad.true)
 
--- what the tests said that were not met
-number_good : (c : Else-bad) → bad_number c.args.panels c.args.number ≡ false
-number_good c = sym c.bad.ensures ∙ c.if-bad.false
-
 pub returns-then-number-own : goal.returns-then-number-own
 unfolding judged deliver_refusal
-returns-then-number-own c = rw (number_good c.before.before.before, eq-eqb _ _ c.if-number-own.true)
+returns-then-number-own c = rw (sym c.bad.ensures ∙ c.if-bad.false, eq-eqb _ _ c.if-number-own.true)
 
 pub returns-then-bad-2 : goal.returns-then-bad-2
 unfolding judged deliver_refusal
 returns-then-bad-2 c =
     rw (
-      number_good c.before.before.before.before.before,
+      sym c.bad.ensures ∙ c.if-bad.false,
       ne_eqb _ _ c.if-number-own.false,
       sym c.bad-2.ensures ∙ c.if-bad-2.true,
     )
@@ -33,7 +26,7 @@ pub returns-then-bad_context : goal.returns-then-bad_context
 unfolding judged deliver_refusal
 returns-then-bad_context c =
     rw (
-      number_good c.before.before.before.before.before.before.before,
+      sym c.bad.ensures ∙ c.if-bad.false,
       ne_eqb _ _ c.if-number-own.false,
       sym c.bad-2.ensures ∙ c.if-bad-2.false,
       sym c.bad_context.ensures ∙ c.if-bad_context.true,
@@ -43,7 +36,7 @@ pub returns : goal.returns
 unfolding judged deliver_refusal
 returns c =
     rw (
-      number_good c.before.before.before.before.before.before.before,
+      sym c.bad.ensures ∙ c.if-bad.false,
       ne_eqb _ _ c.if-number-own.false,
       sym c.bad-2.ensures ∙ c.if-bad-2.false,
       sym c.bad_context.ensures ∙ c.if-bad_context.false,
