@@ -15,18 +15,16 @@ lent a =
     a.args.responses a.args.settled)
 
 pub early_refusal-refusal-requires : goal.early_refusal-refusal-requires
-early_refusal-refusal-requires c = let a = c.before in few_panels {p = lent a a.requires.panel} a.requires.invariant
+early_refusal-refusal-requires c = let a = (goal.at.early_refusal-refusal-requires c).Start in few_panels {p = lent a a.requires.panel} a.requires.invariant
 
 pub returns-then-refusal-ne-ACCEPTED : goal.returns-then-refusal-ne-ACCEPTED
 returns-then-refusal-ne-ACCEPTED c =
-    let told = c.before.before in
-    let a = told.before.before in
-    record { kept = λ p inv. kept_early {p = lent a p} inv told.early_refusal-refusal.ensures c.if-refusal-ne-ACCEPTED.true c.refused.ensures }
+    let a = (goal.at.returns-then-refusal-ne-ACCEPTED c).Start in
+    record { kept = λ p inv. kept_early {p = lent a p} inv c.early_refusal-refusal.ensures c.if-refusal-ne-ACCEPTED.true c.refused.ensures }
 
 pub settle-reply-requires : goal.settle-reply-requires
 settle-reply-requires c =
-    let else = c.before.before.before.before.before.before.before in
-    (else.requires, sym else.early_refusal-refusal.ensures ∙ else.if-refusal-ne-ACCEPTED.false)
+    record { commit_asks = c.requires; n_value = sym c.early_refusal-refusal.ensures ∙ c.if-refusal-ne-ACCEPTED.false }
 
 pub returns : goal.returns
 returns c = rw c.answer_of.ensures c.settle-reply.ensures
