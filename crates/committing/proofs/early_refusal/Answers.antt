@@ -1,12 +1,10 @@
 -- `committing::early_refusal` meets its contract: each answer is what is left of the definition by the tests passed.
 use mathlib.Core.Path.{◌≡◌, ◌∙◌, sym, ap}
-use mathlib.Core.Bool.{false, not}
+use mathlib.Core.Bool.{not}
 use lib.ListN.{get_or}
-use Rattle.numbers.specs.Numbers.{bad_number}
 use Rattle.numbers.specs.internal.Slots.{slot_of}
 use Rattle.numbers.proofs.NumberLaws.{good-number, slot_fits}
 use Rattle.request.specs.declared.Asked.{Asked}
-use Rattle.sets.specs.Sets.{set_of, member}
 use Rattle.store.specs.Requests.{asked_in}
 use Rattle.creek.proofs.HeldLaws.{widened}
 use Rattle.settling.specs.Settling.{early_refusal}
@@ -37,7 +35,7 @@ returns-then-not-asked c =
     rw (
       sym c.bad.ensures ∙ c.if-bad.false,
       sym c.member.ensures ∙ c.if-not-member.false,
-      sym (strength (goal.at.returns-then-not-asked c).After-asked_at-asked) ∙ c.if-not-asked.true,
+      ap not (sym (strength (goal.at.returns-then-not-asked c).After-asked_at-asked)) ∙ c.if-not-asked.true,
     )
 
 pub returns-then-member : goal.returns-then-member
@@ -46,7 +44,7 @@ returns-then-member c =
     rw (
       sym c.bad.ensures ∙ c.if-bad.false,
       sym c.member.ensures ∙ c.if-not-member.false,
-      sym (strength (goal.at.returns-then-member c).After-asked_at-asked) ∙ c.if-not-asked.false,
+      ap not (sym (strength (goal.at.returns-then-member c).After-asked_at-asked)) ∙ c.if-not-asked.false,
       sym c.member-2.ensures ∙ c.if-member.true,
     )
 
@@ -56,6 +54,6 @@ returns c =
     rw (
       sym c.bad.ensures ∙ c.if-bad.false,
       sym c.member.ensures ∙ c.if-not-member.false,
-      sym (strength (goal.at.returns c).After-asked_at-asked) ∙ c.if-not-asked.false,
+      ap not (sym (strength (goal.at.returns c).After-asked_at-asked)) ∙ c.if-not-asked.false,
       sym c.member-2.ensures ∙ c.if-member.false,
     )
