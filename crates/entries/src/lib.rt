@@ -7,7 +7,7 @@ ghost use Rattle.replica.specs.internal.Parts.{Asks};
 ghost use Rattle.steps.specs.Lent.{execute_now, execute_entry, execute_exit};
 ghost use Rattle.invoking.specs.Invoking.{own_now, own_entry, own_exit, invoke_parts, InvokeAsks};
 ghost use Rattle.entering.specs.Entering.{lent_now as enter_now, lent_entry as enter_entry, lent_exit as enter_exit};
-ghost use Rattle.intake.specs.internal.Parts.{lent_now, lent_entry, lent_exit};
+ghost use Rattle.intake.specs.internal.Parts.{lent_now, lent_entry, lent_exit, read_now, read_both};
 ghost use Rattle.encoding.specs.Encoding.{one, message_at, message_call, invocation_of, answer_size};
 ghost use Rattle.encoding.specs.internal.Running.{PutBy, step_entry};
 ghost use Rattle.entries.specs.Entries.{stepping, bringing};
@@ -34,13 +34,13 @@ pub fn step(
     out: &mut [u8],
     from: usize,
 ) -> usize
-    requires asks { Asks (stepping (execute_now committed ordered executed stacked awaiting askings order stack registers saved responses)
+    requires asks { Asks (stepping (execute_now committed ordered executed stacked awaiting (read_now askings) (read_now order) stack registers saved responses)
         undos.old executions.old) }
     requires answer_size_in_bounds { from + answer_size ≤ length out.old }
     ensures { PutBy
-        (stepping (execute_entry committed ordered executed stacked awaiting askings order stack registers saved responses)
+        (stepping (execute_entry committed ordered executed stacked awaiting (read_both askings) (read_both order) stack registers saved responses)
         undos.old executions.old)
-        (stepping (execute_exit committed ordered executed stacked awaiting askings order stack registers saved responses)
+        (stepping (execute_exit committed ordered executed stacked awaiting (read_both askings) (read_both order) stack registers saved responses)
         undos.new executions.new)
         (step_entry tag) out.old from out.new result }
 {
@@ -93,14 +93,14 @@ pub fn bring(
     from: usize,
 ) -> usize
     requires asks { Asks (bringing panels own events.old clock.old
-        (lent_now committed ordered executed commits held known awaiting clocks askings contexts order stack responses settled)) }
+        (lent_now committed ordered executed commits held known awaiting clocks askings contexts order (read_now stack) (read_now responses) settled)) }
     requires at_in_bounds { at < length s.now }
     requires answer_size_in_bounds { from + answer_size ≤ length out.old }
     ensures { PutBy
         (bringing panels own events.old clock.old
-        (lent_entry committed ordered executed commits held known awaiting clocks askings contexts order stack responses settled))
+        (lent_entry committed ordered executed commits held known awaiting clocks askings contexts order (read_both stack) (read_both responses) settled))
         (bringing panels own events.new clock.new
-        (lent_exit committed ordered executed commits held known awaiting clocks askings contexts order stack responses settled))
+        (lent_exit committed ordered executed commits held known awaiting clocks askings contexts order (read_both stack) (read_both responses) settled))
         (one (message_call (get_or s.now at 0) (message_at s.now (at + 1))))
         out.old from out.new result }
 {

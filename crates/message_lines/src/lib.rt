@@ -9,6 +9,7 @@ ghost use Rattle.replica.specs.internal.Model.{Inv};
 ghost use Rattle.replica.specs.internal.Parts.{Asks};
 ghost use Rattle.replica.specs.internal.Whole.{whole_now, whole_entry, whole_exit};
 ghost use Rattle.steps.specs.Lent.{execute_now, execute_entry, execute_exit};
+ghost use Rattle.intake.specs.internal.Parts.{read_now, read_both};
 ghost use Rattle.printed.specs.Printout.{shop_bytes, most_messages, most_input};
 ghost use Rattle.message_lines.specs.LinesPut.{LinePut, idling, IdleKept, AllPut};
 
@@ -61,12 +62,12 @@ fn idle(
     saved: &mut [u64; 512],
     responses: &mut [u32; 512],
 ) -> u32
-    requires { Asks (idling (execute_now committed ordered executed stacked awaiting askings order stack registers saved responses)
+    requires { Asks (idling (execute_now committed ordered executed stacked awaiting (read_now askings) (read_now order) stack registers saved responses)
         undos.old executions.old) }
     ensures { IdleKept
-        (idling (execute_entry committed ordered executed stacked awaiting askings order stack registers saved responses)
+        (idling (execute_entry committed ordered executed stacked awaiting (read_both askings) (read_both order) stack registers saved responses)
         undos.old executions.old)
-        (idling (execute_exit committed ordered executed stacked awaiting askings order stack registers saved responses)
+        (idling (execute_exit committed ordered executed stacked awaiting (read_both askings) (read_both order) stack registers saved responses)
         undos.new executions.new)
         result }
 {

@@ -67,6 +67,13 @@ lent_exit committed ordered executed commits held known awaiting clocks askings 
     lent_now committed.exit ordered.exit executed.exit commits.exit held.exit known.exit awaiting.exit clocks.exit
     askings.exit contexts.exit order.exit stack.exit responses.exit settled.exit
 
+-- a reference that may write, lent where one that only reads is asked for: where it is passed, and at a function's entry and at its exit
+abbrev pub read_now : {A : Type 0} → MutBor A → Bor A
+read_now x = record { ref_ptr = x.ref_ptr; now = x.now }
+
+abbrev pub read_both : {A : Type 0} → Both (MutBor A) (MutBor A) → Both (Bor A) (Bor A)
+read_both x = record { entry = read_now x.entry; exit = read_now x.exit }
+
 -- a panel of that shop and own number, with those parts
 abbrev pub take_parts : ℕ → PanelNo → Lent → State → State
 take_parts panels own l p = record {
