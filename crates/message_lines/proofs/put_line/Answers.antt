@@ -18,12 +18,13 @@ short : (c : Start) → let a = c.args in
     length (message_line a.place a.kind a.number.panel.0 a.number.event.0 a.refusal a.undone) ≤ most_message_bytes
 short c =
     let s = small c in
-    message_short _ _ _ _ _ _ (omega (arith, c.requires.1)) s.0 s.1 s.2 s.3 s.4
+    message_short _ _ _ _ _ _ (omega (arith, c.requires.place_le_most_input)) s.0 s.1 s.2 s.3 s.4
 
 pub put_message-requires : goal.put_message-requires
-put_message-requires c = let a = c.before.before in record { fits = omega (arith, a.requires.0, short a) }
+put_message-requires c =
+    record { fits = omega (arith, c.requires.most_message_bytes_in_bounds, short (goal.at.put_message-requires c).Start) }
 
 pub returns : goal.returns
 returns c =
     let w = c.put_message.ensures in
-    record { written = w; few = omega (arith, w.place, short c.before.before.before.before.before.before) }
+    record { written = w; few = omega (arith, w.place, short (goal.at.returns c).Start) }
