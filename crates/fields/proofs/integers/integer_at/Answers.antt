@@ -33,20 +33,11 @@ loop-i-init c =
     let none : c.args.width - c.args.width ≡ 0 = omega arith in
     rw none (omega arith, refl, lit< tt)
 
-pub overflow_sub-i : goal.overflow_sub-i
-overflow_sub-i c = omega arith
-
 pub overflow_mul-v : goal.overflow_mul-v
 overflow_mul-v c =
     let most = pow-widest (suc (c.args.width - c.loop-i.i)) (omega arith) in
     let bound = one_more_within c.loop-i.v 0 _ c.loop-i.invariant.2 (lit< tt) in
     omega arith
-
-pub overflow_add-v : goal.overflow_add-v
-overflow_add-v c = omega arith
-
-pub bounds-s-at : goal.bounds-s-at
-bounds-s-at c = omega arith
 
 pub overflow_cast-v : goal.overflow_cast-v
 overflow_cast-v c = omega (arith, byte c)
@@ -55,9 +46,6 @@ pub overflow_add-v-in-loop-i : goal.overflow_add-v-in-loop-i
 overflow_add-v-in-loop-i c =
     let most = pow-widest (suc (c.args.width - c.loop-i.i)) (omega arith) in
     omega (arith, within c)
-
-pub loop-i-smaller : goal.loop-i-smaller
-loop-i-smaller c = omega arith
 
 pub loop-i-preserved : goal.loop-i-preserved
 loop-i-preserved c =

@@ -1,15 +1,8 @@
 -- `reading::number_at` meets its contract: the fields stand where the layout has them.
 use native.Mathlib.Nat.{add_assoc, add-zero}
-use native.Mathlib.Omega.{arith}
 use Rattle.fields.specs.Widths.{decode}
 use Rattle.fields.specs.Integers.{integer_at}
 use Rattle.fields.proofs.reading.number_at.Goals as goal
-
-pub bounds-s-at : goal.bounds-s-at
-bounds-s-at c = omega arith
-
-pub bounds-s-at-2 : goal.bounds-s-at-2
-bounds-s-at-2 c = omega arith
 
 pub returns : goal.returns
 unfolding decode integer_at

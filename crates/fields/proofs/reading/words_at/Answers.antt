@@ -14,24 +14,6 @@ loop-p-init c =
     let long = c.requires.0 in
     (omega arith, omega arith, long, sets_all _ _ (length-decode context_widths _ _ ∙ sym long))
 
-pub word_at-requires : goal.word_at-requires
-word_at-requires c = omega arith
-
-pub offset_bounds-words-p : goal.offset_bounds-words-p
-offset_bounds-words-p c = omega arith
-
-pub bounds-words-p : goal.bounds-words-p
-bounds-words-p c = omega arith
-
-pub overflow_add-at : goal.overflow_add-at
-overflow_add-at c = omega arith
-
-pub overflow_add-p : goal.overflow_add-p
-overflow_add-p c = omega arith
-
-pub loop-p-smaller : goal.loop-p-smaller
-loop-p-smaller c = omega arith
-
 pub loop-p-preserved : goal.loop-p-preserved
 loop-p-preserved c =
     let l = c.loop-p in (

@@ -14,24 +14,6 @@ use Rattle.fields.proofs.writing.put_context.Goals as goal
 pub loop-p-init : goal.loop-p-init
 loop-p-init c = (omega arith, omega arith, refl, refl)
 
-pub offset_bounds-context-p : goal.offset_bounds-context-p
-offset_bounds-context-p c = omega arith
-
-pub bounds-context-p : goal.bounds-context-p
-bounds-context-p c = omega arith
-
-pub put_word-requires : goal.put_word-requires
-put_word-requires c = omega arith
-
-pub overflow_add-to : goal.overflow_add-to
-overflow_add-to c = omega arith
-
-pub overflow_add-p : goal.overflow_add-p
-overflow_add-p c = omega arith
-
-pub loop-p-smaller : goal.loop-p-smaller
-loop-p-smaller c = omega arith
-
 pub loop-p-preserved : goal.loop-p-preserved
 loop-p-preserved c =
     let l = c.loop-p in

@@ -3,7 +3,6 @@ use Prim.Native.Nat.{ℕ, ◌+◌}
 use mathlib.Core.List.{List}
 use mathlib.Core.Path.{◌≡◌, sym, ap, ◌∙◌}
 use mathlib.Core.Option.{none, some}
-use native.Mathlib.Omega.{arith}
 use Rattle.wire.specs.declared.KindTold.{KindTold}
 use Rattle.wire.specs.Layout.{kind_with, told}
 use Rattle.fields.specs.Integers.{integer_at}
@@ -27,9 +26,6 @@ pub returns-then-len-at-lt-HEAD_SIZE : goal.returns-then-len-at-lt-HEAD_SIZE
 unfolding head_of
 returns-then-len-at-lt-HEAD_SIZE c =
     c.untaken-then-len-at-lt-HEAD_SIZE.ensures ∙ sym (ap head_of (head_cut _ _ c.if-len-at.false c.if-len-at-lt-HEAD_SIZE.true))
-
-pub head_as-requires : goal.head_as-requires
-head_as-requires c = omega arith
 
 pub returns-in-Known : goal.returns-in-Known
 returns-in-Known c =

@@ -18,9 +18,6 @@ pub returns-then-s-at : goal.returns-then-s-at
 unfolding most_size
 returns-then-s-at c = sym (cut_short_lem _ _ _ (omega arith) (omega arith) (omega arith))
 
-pub spare_set-requires : goal.spare_set-requires
-spare_set-requires c = omega arith
-
 pub returns-then-spare_set : goal.returns-then-spare_set
 unfolding most_size
 returns-then-spare_set c =
