@@ -23,18 +23,18 @@ use Rattle.intake.specs.Intake.{call_of}
 abbrev pub panels_at : ℕ
 panels_at = 0
 
-abbrev pub field_own : ℕ
-field_own = suc panels_at
+abbrev pub own_at : ℕ
+own_at = suc panels_at
 
 abbrev pub calls_at : ℕ
-calls_at = suc field_own
+calls_at = suc own_at
 
 -- P, and the own panel; a byte that is not there is 0
 abbrev pub panels_of : List ℕ → ℕ
 panels_of s = get_or s panels_at 0
 
 abbrev pub own_of : List ℕ → ℕ
-own_of s = get_or s field_own 0
+own_of s = get_or s own_at 0
 
 -- the bytes of a call: a tag and room for the longest bus message
 abbrev pub call_size : ℕ
