@@ -1,6 +1,6 @@
 -- Two panels side by side (`specs/Agreement`): every history comes to the order of what it accepted, `comes_to_order`; two that accepted
 -- the same agree, `side_by_side`; and the committed list only grows at its end, `grows_at_end`.
-use Prim.Native.Nat.{ℕ, ◌+◌, ◌≤◌}
+use Prim.Native.Nat.{ℕ, ◌≤◌}
 use native.Mathlib.Omega.{arith}
 use mathlib.Core.Path.{◌≡◌, refl, sym, ap, ◌∙◌}
 use mathlib.Core.Bool.{Bool, true, false, not, ◌&&◌, cond}

@@ -1,5 +1,5 @@
 -- A request is committed: the requests are the same ones, the plan stays sound, and one strong request more is committed.
-use Prim.Native.Nat.{suc, ◌+◌, ◌≤◌}
+use Prim.Native.Nat.{suc, ◌≤◌}
 use native.Mathlib.Omega.{arith}
 use mathlib.Core.Path.{◌≡◌, refl, sym, ap, ◌∙◌}
 use mathlib.Core.Bool.{Bool, true, false, not, ◌&&◌, ◌||◌, beq}
@@ -13,12 +13,11 @@ use Rattle.numbers.specs.internal.Slots.{GoodNumber}
 use Rattle.sets.specs.Sets.{is_empty, names_from, join, subset}
 use Rattle.request.specs.Order.{before}
 use Rattle.request.specs.Request.{bad_context}
-use Rattle.request.specs.Refusal as refused
 use Rattle.lists.proofs.BoolLaws.{true_not_false, both_true, neither_true}
 use Rattle.numbers.proofs.NumberLaws.{same_number_self}
 use Rattle.sets.proofs.SetLaws.{subset-member}
 use Rattle.lists.specs.Lists.{count, keep, find}
-use Rattle.creek.specs.Plan.{Plan, order, has_number, held}
+use Rattle.creek.specs.Plan.{Plan, order, has_number}
 use Rattle.creek.specs.Plan.{named, stays, committing}
 use Rattle.creek.specs.internal.Sound.{is_bad, Held, unknown, known_against_strength, SoundPlan}
 use Rattle.lists.proofs.ListLaws.{one_true, one_false, count-append, count_never, count_weaker, counts-length}

@@ -11,11 +11,10 @@ use Rattle.numbers.specs.Numbers.{same_number, most_panels}
 use Rattle.numbers.specs.internal.Slots.{GoodNumber}
 use Rattle.sets.specs.Sets.{member, join}
 use Rattle.request.specs.Order.{before}
-use Rattle.request.specs.Refusal as refused
 use Rattle.numbers.proofs.NumberLaws.{good-number, same_number_self}
 use Rattle.request.proofs.OrderLaws.{before_transitive, before_total}
 use Rattle.lists.specs.Lists.{one, count, Ordered}
-use Rattle.creek.specs.Plan.{Plan, order, has_number, held, known_with, placed, entered}
+use Rattle.creek.specs.Plan.{Plan, order, has_number, known_with, placed, entered}
 use Rattle.creek.specs.internal.Sound.{Held, unknown, known_against_strength, SoundPlan}
 use Rattle.lists.proofs.ListLaws.{one_true, one_false, count-append, count_implies, count_weaker, counts-length}
 use Rattle.lists.proofs.ListLaws.{count-insert, insert_ordered}

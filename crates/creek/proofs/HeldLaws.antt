@@ -1,6 +1,6 @@
 -- What holds of the requests held (`Held`): after a rearrangement, after one more request, after a number has become known; that a number
 -- held is good; and that at most 512 requests are held.
-use Prim.Native.Nat.{ℕ, ◌+◌, ◌-◌, ◌≤◌}
+use Prim.Native.Nat.{ℕ, ◌+◌, ◌≤◌}
 use native.Mathlib.Omega.{arith}
 use mathlib.Core.Path.{◌≡◌, refl, sym, ap, ◌∙◌}
 use mathlib.Core.Bool.{Bool, true, false, ◌||◌}

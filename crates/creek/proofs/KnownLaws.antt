@@ -8,7 +8,6 @@ use Rattle.request.specs.declared.Request.{Request}
 use Rattle.numbers.specs.Numbers.{same_number, most_panels}
 use Rattle.numbers.specs.internal.Slots.{GoodNumber}
 use Rattle.sets.specs.Sets.{member, join}
-use Rattle.request.specs.Refusal as refused
 use Rattle.lists.proofs.BoolLaws.{true_not_false}
 use Rattle.numbers.proofs.NumberLaws.{same_number_self}
 use Rattle.sets.proofs.SetLaws.{member-join}

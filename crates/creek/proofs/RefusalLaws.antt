@@ -9,7 +9,7 @@ use Rattle.numbers.specs.Numbers.{bad_number}
 use Rattle.sets.specs.Sets.{Words, subset}
 use Rattle.request.specs.Refusal as refused
 use Rattle.sets.proofs.LowestLaws.{Missing, lacking_is_missing}
-use Rattle.creek.specs.Plan.{Plan, held, met, is_committed, waits, found_refusal, commit_refusal}
+use Rattle.creek.specs.Plan.{Plan, held, met, is_committed, found_refusal, commit_refusal}
 use Rattle.creek.specs.Book.{commit, refusal}
 use Rattle.creek.specs.Replies.{named_by_refusal, answer_of}
 use Rattle.creek.specs.Calls.{Replica, answer}

@@ -1,6 +1,6 @@
 -- Stable replies: a stable reply is the request's response in one replay of the committed list, which only grows at its end; and the one
 -- that a settlement gives is the response of the request's last carry-out.
-use Prim.Native.Nat.{ℕ, ◌+◌, ◌≤◌}
+use Prim.Native.Nat.{ℕ, ◌≤◌}
 use native.Mathlib.Omega.{arith}
 use borrow.Author.Tests.{le-leb}
 use mathlib.Core.Path.{◌≡◌, refl, sym, ap, ◌∙◌}

@@ -9,7 +9,6 @@ use Rattle.counters.specs.Counted.{undos_counted, executions_counted}
 use Rattle.creek.specs.Replies.{reply_in, no_mark, reply}
 use Rattle.creek.specs.declared.Reply.{Reply}
 use Rattle.replica.specs.State.{State}
-use Rattle.replica.specs.internal.Cores.{core_in}
 use Rattle.replica.specs.internal.Parts.{with_counters}
 use Rattle.replica.specs.internal.Model.{Inv}
 use Rattle.steps.specs.Lent.{UndoLent, undo_with, undo_changed, undoing, ExecuteLent, execute_changed, executing, with_undos, with_executions}

@@ -15,7 +15,6 @@ use Rattle.creek.specs.Book.{planned}
 use Rattle.counters.specs.Counted.{counted}
 use Rattle.creek.specs.internal.Sound.{Sound, most_requests}
 use Rattle.replica.specs.State.{State}
-use Rattle.replica.specs.internal.Parts.{standing}
 use Rattle.replica.specs.internal.Model.{plan_of, book_of, model, Inv}
 
 -- ---- what enters, and what the state is then

@@ -1,5 +1,5 @@
 -- A settlement and the set of the numbers settled: what `MovesAsk` says of a state holds, and after it the set has those settled then.
-use Prim.Native.Nat.{ℕ, ◌-◌, ◌≤◌}
+use Prim.Native.Nat.{ℕ, ◌≤◌}
 use native.Mathlib.Omega.{arith}
 use mathlib.Core.Path.{◌≡◌, refl, sym, ap, ◌∙◌}
 use mathlib.Core.Bool.{Bool, true, false, ◌||◌, or_comm}
@@ -23,7 +23,6 @@ use Rattle.unions.specs.Union.{United}
 use Rattle.ordering.proofs.SlotLaws.{same_slot, in_words_member, comes-before-order}
 use Rattle.slots.proofs.MarkLaws.{moves_asked, marks-after}
 use Rattle.store.specs.Requests.{request_at}
-use Rattle.creek.specs.Plan.{order}
 use Rattle.replica.specs.State.{State}
 use Rattle.replica.specs.internal.Model.{plan_of, Inv}
 use Rattle.replica.proofs.ModelLaws.{plan_sound, order_slot, tentative_ordered}

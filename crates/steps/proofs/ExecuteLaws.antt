@@ -25,8 +25,8 @@ use Rattle.effects.specs.Effect.{response, Executed}
 use Rattle.registers.specs.Rollback.{saved_of, saved_in}
 use Rattle.ordering.specs.Slots.{IsSlot}
 use Rattle.creek.specs.declared.Answer.{Answer}
-use Rattle.creek.specs.Plan.{order, has_number, is_committed}
-use Rattle.creek.specs.Execution.{operations, registers, executed_next, execute_refusal}
+use Rattle.creek.specs.Plan.{has_number, is_committed}
+use Rattle.creek.specs.Execution.{executed_next, execute_refusal}
 use Rattle.creek.specs.internal.Stack.{stacked}
 use Rattle.creek.specs.Book.{execute, refusal, accepted}
 use Rattle.creek.specs.Replies.{reply, mark_of, execution_mark, execution_reply, accepted_answer, awaiting_after, accepted_awaiting}

@@ -22,7 +22,6 @@ use Rattle.creek.specs.declared.Reply.{Reply}
 use Rattle.creek.specs.Book.{undo, execute, refusal}
 use Rattle.creek.specs.Replies.{no_mark, refused_with, reply, reply_answer, reply_in, steps_done, named_by_refusal}
 use Rattle.replica.specs.State.{State}
-use Rattle.replica.specs.internal.Cores.{core_in}
 use Rattle.replica.specs.internal.Parts.{with_counters}
 use Rattle.replica.specs.Promises.{Kept}
 use Rattle.replica.specs.internal.Model.{book_of, Inv}

@@ -53,8 +53,11 @@ loop-at-preserved-then-next-eq-NOBODY c =
 
 pub offset_bounds-replies-count : goal.offset_bounds-replies-count
 offset_bounds-replies-count c =
-    omega (arith, execute_room _ c.loop-at.invariant c.loop-at-test.true
-    (next (goal.at.offset_bounds-replies-count c).After-put_on-next) c.requires.execute_asks c.if-next-eq-NOBODY.false)
+    omega (
+      arith,
+      execute_room _ c.loop-at.invariant c.loop-at-test.true
+          (next (goal.at.offset_bounds-replies-count c).After-put_on-next) c.requires.execute_asks c.if-next-eq-NOBODY.false,
+    )
 
 pub bounds-replies-count : goal.bounds-replies-count
 bounds-replies-count c =
@@ -63,8 +66,11 @@ bounds-replies-count c =
 
 pub overflow_add-count : goal.overflow_add-count
 overflow_add-count c =
-    omega (arith, execute_room _ c.loop-at.invariant c.loop-at-test.true
-    (next (goal.at.overflow_add-count c).After-put_on-next) c.requires.execute_asks c.if-next-eq-NOBODY.false)
+    omega (
+      arith,
+      execute_room _ c.loop-at.invariant c.loop-at-test.true
+          (next (goal.at.overflow_add-count c).After-put_on-next) c.requires.execute_asks c.if-next-eq-NOBODY.false,
+    )
 
 pub loop-at-preserved : goal.loop-at-preserved
 loop-at-preserved c =

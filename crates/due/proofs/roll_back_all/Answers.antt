@@ -1,5 +1,4 @@
 -- `due::roll_back_all` meets its contract.
-use native.Mathlib.Omega.{arith}
 use Rattle.due.proofs.DueParts.{roll_start, roll_asks, roll_on, roll-end}
 use Rattle.due.proofs.roll_back_all.Goals as goal
 

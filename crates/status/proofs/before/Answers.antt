@@ -1,5 +1,4 @@
 -- `before` meets its contract. The invariant: the place, with what stands before the slot from there on, is the whole's.
-use Prim.Native.Nat.{◌+◌, ◌-◌, ◌≤◌}
 use native.Mathlib.Omega.{arith}
 use mathlib.Core.Path.{◌≡◌, ap}
 use mathlib.Core.Bool.{not}

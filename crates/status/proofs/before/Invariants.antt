@@ -1,11 +1,7 @@
 -- `before` meets its contract. The invariant: the place, with what stands before the slot from there on, is the whole's.
 use Prim.Native.Nat.{◌+◌, ◌-◌, ◌≤◌}
-use native.Mathlib.Omega.{arith}
-use mathlib.Core.Path.{◌≡◌, ap}
-use mathlib.Core.Bool.{not}
-use lib.Dec.{eqb}
+use mathlib.Core.Path.{◌≡◌}
 use lib.Seq.{slice}
-use Rattle.lists.proofs.StepLaws.{leading_on, leading_stops, leading_end}
 use Rattle.status.specs.internal.Parts.{stand_before}
 use Rattle.status.proofs.before.Given as goal
 
