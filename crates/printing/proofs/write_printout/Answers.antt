@@ -1,7 +1,5 @@
 -- `write_printout` meets its contract: the page has room for the printout, and what is put there is all of it.
-use mathlib.Core.Path.{sym}
 use native.Mathlib.Omega.{arith}
-use lib.Seq.{length-take-le}
 use Rattle.printed.proofs.PrintedLaws.{returned-whole, returned_within}
 use Rattle.printing.proofs.write_printout.Goals as goal
 
@@ -10,12 +8,5 @@ slice_bounds-out-end c =
     let p = c.print-n in
     omega (arith, c.page-out.ensures, returned_within p.ensures p.auto.0, p.auto.0)
 
-pub slice_bounds-write_text-end : goal.slice_bounds-write_text-end
-slice_bounds-write_text-end c =
-    let p = c.print-n in
-    sym (length-take-le p.result p.new.0 (array-share-prefix-out c.before.before))
-
 pub returns : goal.returns
-returns c =
-    let put = c.before.before.before.before in
-    returned-whole put.print-n.ensures (omega (arith, put.page-out.ensures))
+returns c = returned-whole c.print-n.ensures (omega (arith, c.page-out.ensures))

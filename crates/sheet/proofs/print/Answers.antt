@@ -23,7 +23,7 @@ returns-then-input-le-MOST_INPUT c =
     printed-whole input _ _ _ (omega (arith, c.if-out-lt-MOST_PRINTED.false)) put.few (rw all put.written)
 
 pub slice_bounds-put_printout-end : goal.slice_bounds-put_printout-end
-slice_bounds-put_printout-end c = ?
+slice_bounds-put_printout-end c = sym (cut (goal.at.slice_bounds-put_printout-end c).Else-input-le-MOST_INPUT)
 
 pub put_printout-requires-2 : goal.put_printout-requires-2
 put_printout-requires-2 c = record {
