@@ -9,7 +9,6 @@ use borrow.Author.Tests.{eq-eqb, ne_eqb}
 use Rattle.text.specs.Placed.{Placed}
 use Rattle.lists.proofs.BoolLaws.{true_not_false}
 use Rattle.creek.specs.declared.Answer.{Answer}
-use Rattle.creek.specs.declared.Invocation.{Invocation}
 use Rattle.creek.specs.Book.{Call, invoke, undo, execute}
 use Rattle.replica.specs.State.{State, Called}
 use Rattle.replica.specs.Promises.{Kept}

@@ -1,6 +1,5 @@
 -- All due steps as an entry: their count is small, and what running them does.
 use Prim.Native.Nat.{◌+◌, ◌*◌, ◌≤◌}
-use mathlib.Core.Path.{◌≡◌}
 use native.Mathlib.Omega.{arith}
 use Rattle.numbers.specs.Numbers.{no_number}
 use Rattle.creek.specs.Replies.{no_mark, reply}

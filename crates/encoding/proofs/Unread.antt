@@ -1,6 +1,6 @@
 -- A message that cannot be read is heard as the request of zeros: it is refused and changes nothing.
 use Prim.Native.Nat.{ℕ, ◌≤◌}
-use mathlib.Core.Path.{◌≡◌, refl, sym, ap, ◌∙◌}
+use mathlib.Core.Path.{◌≡◌, refl, sym, ◌∙◌}
 use mathlib.Core.Bool.{Bool, true, false}
 use mathlib.Core.List.{List}
 use native.Mathlib.Omega.{arith}
@@ -16,7 +16,7 @@ use Rattle.replica.specs.State.{State}
 use Rattle.replica.specs.Promises.{Kept}
 use Rattle.replica.specs.internal.Model.{model}
 use Rattle.wire.specs.Layout.{least_message}
-use Rattle.wire.specs.Message.{BusMessage, no_message, said, as_message}
+use Rattle.wire.specs.Message.{BusMessage, no_message, said}
 use Rattle.wire.specs.Reader.{Outcome, message, end, refused, answered, read_at}
 use Rattle.wire.proofs.MessageLaws.{said-message}
 use Rattle.wire.proofs.RoundTrip.{taken_least}

@@ -6,7 +6,7 @@ use Rattle.numbers.specs.Numbers.{no_number}
 use Rattle.request.specs.Refusal as refused
 use Rattle.creek.specs.declared.Answer.{Answer}
 use Rattle.creek.specs.Book.{Call, undo, execute}
-use Rattle.creek.specs.Calls.{Replica, answer}
+use Rattle.creek.specs.Calls.{Replica}
 use Rattle.creek.specs.History.{run, due_calls}
 use Rattle.creek.specs.Showing.{owed_shown}
 use Rattle.creek.specs.Replies.{refused_with, reply_answer}
