@@ -25,7 +25,7 @@ use Rattle.creek.proofs.KnownLaws.{now_known, other_known, still_known}
 -- ---- a request enters
 
 pub placed-count : (p : Request → Bool) (x : Request) (l : List Request) → count p (placed x l) ≡ one (p x) + count p l
-placed-count p x l = count-insert before p x l
+placed-count p x l = rw count-insert
 
 pub placed_ordered : (x : Request) (l : List Request) → count (has_number x.number) l ≡ 0 → Ordered before l → Ordered before (placed x l)
 placed_ordered x l = insert_ordered before before_transitive (λ y z. same_number y.number z.number) before_total x l

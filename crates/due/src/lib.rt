@@ -84,8 +84,8 @@ fn execute_all<'a>(
     saved: &mut [u64; 512],
     responses: &mut [u32; 512],
 ) -> DueSteps
-    requires execute_asks { ExecuteAsks (execute_now committed ordered executed stacked awaiting askings order stack registers saved responses) }
-    requires executed_value { executed.old ≡ stacked.old }
+    requires parts { ExecuteAsks (execute_now committed ordered executed stacked awaiting askings order stack registers saved responses) }
+    requires nothing_to_undo { executed.old ≡ stacked.old }
     ensures { AllExecuted (execute_entry committed ordered executed stacked awaiting askings order stack registers saved responses)
         undos (execute_exit committed ordered executed stacked awaiting askings order stack registers saved responses) result }
 {

@@ -39,9 +39,9 @@ pub fn settle<'a>(
     settled: &mut [u64; 8],
     n: Number,
 ) -> Reply
-    requires commit_asks { CommitAsks panels ordered
+    requires parts { CommitAsks panels ordered
         (lent_now committed executed commits held known awaiting clocks askings contexts order stack responses settled) }
-    requires n_value { early_refusal panels (set_of held.now) (set_of known.old) askings.now n ≡ accepted }
+    requires not_refused { early_refusal panels (set_of held.now) (set_of known.old) askings.now n ≡ accepted }
     ensures { CommitKept panels ordered
         (lent_entry committed executed commits held known awaiting clocks askings contexts order stack responses settled) n
         (lent_exit committed executed commits held known awaiting clocks askings contexts order stack responses settled)

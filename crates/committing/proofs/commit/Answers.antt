@@ -28,7 +28,7 @@ returns-then-refusal-ne-ACCEPTED c =
 
 pub settle-requires : goal.settle-requires
 settle-requires c =
-    record { commit_asks = c.requires; n_value = sym c.early_refusal-refusal.ensures ∙ c.if-refusal-ne-ACCEPTED.false }
+    record { parts = c.requires; not_refused = sym c.early_refusal-refusal.ensures ∙ c.if-refusal-ne-ACCEPTED.false }
 
 pub returns : goal.returns
 returns c = c.settle.ensures

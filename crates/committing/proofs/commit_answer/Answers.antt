@@ -24,7 +24,7 @@ returns-then-refusal-ne-ACCEPTED c =
 
 pub settle-reply-requires : goal.settle-reply-requires
 settle-reply-requires c =
-    record { commit_asks = c.requires; n_value = sym c.early_refusal-refusal.ensures ∙ c.if-refusal-ne-ACCEPTED.false }
+    record { parts = c.requires; not_refused = sym c.early_refusal-refusal.ensures ∙ c.if-refusal-ne-ACCEPTED.false }
 
 pub returns : goal.returns
 returns c = rw c.answer_of.ensures c.settle-reply.ensures

@@ -8,7 +8,7 @@ use Rattle.due.proofs.execute_all.Goals.{After-put_on-next, In-loop-at}
 
 -- ---- what is known in the loop
 asked : (c : In-loop-at) → NextAsks c.args.order.now c.loop-at.at
-asked c = execute_asks _ c.loop-at.invariant c.requires.execute_asks c.loop-at-test.true
+asked c = execute_asks _ c.loop-at.invariant c.requires.parts c.loop-at-test.true
 
 next : (c : After-put_on-next)
     → Next c.args.committed c.loop-at.awaiting c.args.askings.now c.args.order.now c.loop-at.stack c.loop-at.registers c.loop-at.saved
@@ -20,13 +20,13 @@ next c =
 
 -- ---- what the function needs
 pub overflow_sub-executions : goal.overflow_sub-executions
-overflow_sub-executions c = omega (arith, c.requires.execute_asks.invariant.counts)
+overflow_sub-executions c = omega (arith, c.requires.parts.invariant.counts)
 
 pub overflow_cast-executions : goal.overflow_cast-executions
-overflow_cast-executions c = omega (arith, c.requires.execute_asks.invariant.counts)
+overflow_cast-executions c = omega (arith, c.requires.parts.invariant.counts)
 
 pub loop-at-init : goal.loop-at-init
-loop-at-init c = execute_start _ c.requires.execute_asks c.requires.executed_value _ c.no_reply-replies.ensures
+loop-at-init c = execute_start _ c.requires.parts c.requires.nothing_to_undo _ c.no_reply-replies.ensures
 
 pub offset_bounds-order-at : goal.offset_bounds-order-at
 offset_bounds-order-at c = omega (arith, asked (goal.at.offset_bounds-order-at c).In-loop-at)
@@ -56,20 +56,20 @@ offset_bounds-replies-count c =
     omega (
       arith,
       execute_room _ c.loop-at.invariant c.loop-at-test.true
-          (next (goal.at.offset_bounds-replies-count c).After-put_on-next) c.requires.execute_asks c.if-next-eq-NOBODY.false,
+          (next (goal.at.offset_bounds-replies-count c).After-put_on-next) c.requires.parts c.if-next-eq-NOBODY.false,
     )
 
 pub bounds-replies-count : goal.bounds-replies-count
 bounds-replies-count c =
     execute_room _ c.loop-at.invariant c.loop-at-test.true
-    (next (goal.at.bounds-replies-count c).After-put_on-next) c.requires.execute_asks c.if-next-eq-NOBODY.false
+    (next (goal.at.bounds-replies-count c).After-put_on-next) c.requires.parts c.if-next-eq-NOBODY.false
 
 pub overflow_add-count : goal.overflow_add-count
 overflow_add-count c =
     omega (
       arith,
       execute_room _ c.loop-at.invariant c.loop-at-test.true
-          (next (goal.at.overflow_add-count c).After-put_on-next) c.requires.execute_asks c.if-next-eq-NOBODY.false,
+          (next (goal.at.overflow_add-count c).After-put_on-next) c.requires.parts c.if-next-eq-NOBODY.false,
     )
 
 pub loop-at-preserved : goal.loop-at-preserved

@@ -21,8 +21,8 @@ execute_all-requires c =
     let l = lent (goal.at.execute_all-requires c).Start in
     let done = c.roll_back_all.ensures.back (executing l c.requires.panel) c.requires.invariant in
     record {
-      execute_asks = record { panel = with_undos (l.stacked - l.executed) c.requires.panel; invariant = done.invariant };
-      executed_value = done.nothing;
+      parts = record { panel = with_undos (l.stacked - l.executed) c.requires.panel; invariant = done.invariant };
+      nothing_to_undo = done.nothing;
     }
 
 pub returns : goal.returns

@@ -34,14 +34,14 @@ lent c =
 -- ---- what is known there
 -- the number is held at the slot, strong and not known
 judged_at : (c : After-slot_of-slot) (p : State) → Inv (lent c p) → Judged (lent c p) c.args.n c.slot_of-slot.result
-judged_at c p inv = early-passed {p = lent c p} inv (sym c.requires.n_value) refl c.slot_of-slot.ensures
+judged_at c p inv = early-passed {p = lent c p} inv (sym c.requires.not_refused) refl c.slot_of-slot.ensures
 
 held_at : (c : After-slot_of-slot) (p : State) → Inv (lent c p) → HeldAt (lent c p) c.args.n c.slot_of-slot.result
 held_at c p inv = (judged_at c p inv).held_at
 
 slot_of_is : (c : After-slot_of-slot) → IsSlot c.slot_of-slot.result
 slot_of_is c =
-    let asks = c.requires.commit_asks in
+    let asks = c.requires.parts in
     held_slot {p = lent c asks.panel} asks.invariant (held_at c asks.panel asks.invariant)
 
 -- the answer by the context that is kept at the slot
@@ -67,12 +67,12 @@ settled_by_lem c = rw c.context_at-context.ensures at c.settle_moving-moved.ensu
 
 -- how many are committed afterwards
 committed_fits : (c : After-settle_moving-moved) → c.settle_moving-moved.result.committed ≤ most_requests
-committed_fits c = omega (arith, settled_by_lem c, c.requires.commit_asks.invariant.counts)
+committed_fits c = omega (arith, settled_by_lem c, c.requires.parts.invariant.counts)
 
 pub context_at-context-requires : goal.context_at-context-requires
 context_at-context-requires c = (
   slot_of_is (goal.at.context_at-context-requires c).After-slot_of-slot,
-  c.requires.commit_asks.invariant.lengths.requests.contexts,
+  c.requires.parts.invariant.lengths.requests.contexts,
 )
 
 pub returns-then-waiting-ne-ACCEPTED : goal.returns-then-waiting-ne-ACCEPTED
@@ -90,7 +90,7 @@ pub settle_moving-moved-requires : goal.settle_moving-moved-requires
 settle_moving-moved-requires c =
     let at = goal.at.settle_moving-moved-requires c in
     let slot = at.After-slot_of-slot in
-    let asks = c.requires.commit_asks in
+    let asks = c.requires.parts in
     rw c.context_at-context.ensures
     (moves_asks {p = lent slot asks.panel} asks.invariant (held_at slot asks.panel asks.invariant)
     (to_settle slot asks.panel asks.invariant _ (answer_is at.After-waiting_reply-waiting) c.if-waiting-ne-ACCEPTED.false))
@@ -99,7 +99,7 @@ settle_moving-moved-requires c =
 pub mark-requires : goal.mark-requires
 mark-requires c =
     let slot = (goal.at.mark-requires c).After-slot_of-slot in
-    let asks = c.requires.commit_asks in
+    let asks = c.requires.parts in
     record {
       long = asks.invariant.lengths.settled;
       number = good_widened {p = lent slot asks.panel} asks.invariant (held_at slot asks.panel asks.invariant).good;
@@ -109,7 +109,7 @@ pub common_start-start-requires : goal.common_start-start-requires
 common_start-start-requires c =
     let at = goal.at.common_start-start-requires c in
     let slot = at.After-slot_of-slot in
-    let asks = c.requires.commit_asks in
+    let asks = c.requires.parts in
     start_asks {p = lent slot asks.panel} asks.invariant (held_at slot asks.panel asks.invariant)
     (to_settle slot asks.panel asks.invariant _ (answer_is at.After-waiting_reply-waiting) c.if-waiting-ne-ACCEPTED.false)
     (settled_by_lem at.After-settle_moving-moved) c.lower-same.ensures c.lower-last.ensures
@@ -124,7 +124,7 @@ bounds-responses-count c =
 
 pub overflow_add-commits : goal.overflow_add-commits
 overflow_add-commits c =
-    let asks = c.requires.commit_asks in
+    let asks = c.requires.parts in
     omega (arith, commits_fit (lent (goal.at.overflow_add-commits c).After-slot_of-slot asks.panel) asks.invariant)
 
 pub returns : goal.returns
