@@ -13,14 +13,14 @@ cut : (c : Else-input-le-MOST_INPUT) → let input = c.args.input.now in length 
 cut c = length-take-le most_input c.args.input.now (omega (arith, c.if-input-le-MOST_INPUT.false))
 
 pub returns-then-out-lt-MOST_PRINTED : goal.returns-then-out-lt-MOST_PRINTED
-returns-then-out-lt-MOST_PRINTED c = printed_none _ _ (omega (arith, c.if-out-lt-MOST_PRINTED.true))
+returns-then-out-lt-MOST_PRINTED c = printed_none _ _ (omega arith)
 
 pub returns-then-input-le-MOST_INPUT : goal.returns-then-input-le-MOST_INPUT
 returns-then-input-le-MOST_INPUT c =
     let put = c.put_printout.ensures in
     let input = c.args.input.now in
     let all = take_all most_input input c.if-input-le-MOST_INPUT.true in
-    printed-whole input _ _ _ (omega (arith, c.if-out-lt-MOST_PRINTED.false)) put.few (rw all put.written)
+    printed-whole input _ _ _ (omega arith) put.few (rw all put.written)
 
 pub slice_bounds-put_printout-end : goal.slice_bounds-put_printout-end
 slice_bounds-put_printout-end c = sym (cut (goal.at.slice_bounds-put_printout-end c).Else-input-le-MOST_INPUT)
@@ -28,10 +28,10 @@ slice_bounds-put_printout-end c = sym (cut (goal.at.slice_bounds-put_printout-en
 pub put_printout-requires-2 : goal.put_printout-requires-2
 put_printout-requires-2 c = record {
   input_len_bound = omega (arith, cut (goal.at.put_printout-requires-2 c).Else-input-le-MOST_INPUT);
-  most_printed_in_bounds = omega (arith, c.if-out-lt-MOST_PRINTED.false);
+  most_printed_in_bounds = omega arith;
 }
 
 pub returns : goal.returns
 returns c =
     let put = c.put_printout-2.ensures in
-    printed-whole _ _ _ _ (omega (arith, c.if-out-lt-MOST_PRINTED.false)) put.few put.written
+    printed-whole _ _ _ _ (omega arith) put.few put.written
