@@ -28,7 +28,7 @@ abbrev pub only-read : List ℕ → List Choice
 only-read = choosing is_read_first 0
 
 -- a field's type, and how far into the struct it lies
-abbrev pub Placed : Type 2
+abbrev pub Placed : Type 1
 Placed = RattleType × ℕ
 
 abbrev pub AllHere : List Placed → Type 0

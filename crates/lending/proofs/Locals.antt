@@ -4,7 +4,7 @@ use Prim.Native.Nat.{ℕ, zero, suc, ◌+◌}
 use mathlib.Core.List.{List, [], ◌∷◌}
 use mathlib.Core.Option.{Option, some as full, none as empty}
 use seplogic.Ra.Ura.{Ura}
-use seplogic.Ra.TreeShare.{full_share}
+use base.Fraction.{full_share}
 use lib.ListN.{set}
 use lib.Dec.{T as Holds}
 use mir.Syntax.{Ty, Local, local, Opd as Operand, Body as Code, place, copy, addr_of, deref, field, seq, assign}
@@ -36,9 +36,7 @@ HoldsAt [] i v = ⊥
 HoldsAt (x ∷ vs) zero v = x ≡ full v
 HoldsAt (x ∷ vs) (suc i) v = HoldsAt vs i v
 
-module _ {M : Type 1} {𝓤 : Ura M} (𝓛 : Logic 𝓤) where
-  open 𝓛 use {H}
-
+module _ {M : Type 1} (𝓤 : Ura M) (H : Heap 𝓤) where
   abbrev pub blocks : (ls : List Local) → Blocks ls → Env 𝓤 H
   blocks [] bs = []
   blocks (local τ h ∷ ls) bs = (τ, bs.0) ∷ blocks ls bs.1
@@ -65,60 +63,62 @@ module _ {M : Type 1} {𝓤 : Ura M} (𝓛 : Logic 𝓤) where
   cells (e ∷ E) [] = ‵ ftrue
   cells (e ∷ E) (x ∷ vs) = (cell e x ⊛ ‵ (fdies e.0 e.1)) ⊛ cells E vs
 
-  module _ where
-    -- room for local i, and the locals again once something lies there
-    taken : (E : Env 𝓤 H) (vs : List (Option Val)) (i : ℕ) → Has E vs i
-        → ent 𝓤 (mean 𝓛 (cells E vs)) (sep 𝓤 (H.room (spot_of 𝓤 H E i).0 (spot_of 𝓤 H E i).1 zero)
-        (all 𝓤 (λ (u : Val). wand 𝓤 (H.at full_share (spot_of 𝓤 H E i).0 (spot_of 𝓤 H E i).1 zero u) (mean 𝓛 (cells E (set vs i (full u)))))))
-    taken [] vs i has = absurd has
-    taken (e ∷ E) [] i has = absurd has
-    taken (e ∷ E) (empty ∷ vs) zero has =
-        qed 𝓛 (cells (e ∷ E) (empty ∷ vs) ∷ []) ∵ split ! $ split ! $ frame ! $
-        each ! (λ (u : Val). wand 𝓤 (H.at full_share e.0 e.1 zero u) (mean 𝓛 (cells (e ∷ E) (full u ∷ vs)))) (λ u.
-        assume ! (‵ (fat full_share e.0 e.1 zero u)) $ join ! $ done !)
-    taken (e ∷ E) (full v ∷ vs) zero has =
-        qed 𝓛 (cells (e ∷ E) (full v ∷ vs) ∷ []) ∵ split ! $ split ! $ forget ! 0 refl $ frame ! $
-        each ! (λ (u : Val). wand 𝓤 (H.at full_share e.0 e.1 zero u) (mean 𝓛 (cells (e ∷ E) (full u ∷ vs)))) (λ u.
-        assume ! (‵ (fat full_share e.0 e.1 zero u)) $ join ! $ done !)
-    taken (e ∷ E) (x ∷ vs) (suc i) has =
-        qed 𝓛 (cells (e ∷ E) (x ∷ vs) ∷ []) ∵ split ! $ move ! (1 ∷ []) $
-        use1 𝓛 (‵ (froom (spot_of 𝓤 H E i).0 (spot_of 𝓤 H E i).1 zero) ⊛ raw (all 𝓤 Back)) (taken E vs i has) $ split ! $ frame ! $
-        each ! (λ (u : Val). wand 𝓤 (H.at full_share (spot_of 𝓤 H E i).0 (spot_of 𝓤 H E i).1 zero u) (mean 𝓛 (cells (e ∷ E) (x ∷ set vs i
-        (full u))))) (λ u.
-        assume ! (‵ (fat full_share (spot_of 𝓤 H E i).0 (spot_of 𝓤 H E i).1 zero u)) $ move ! (1 ∷ []) $
-        use1 𝓛 (raw (Back u)) (all_e 𝓤 Back u) $ move ! (1 ∷ 0 ∷ []) $
-        use2 𝓛 (cells E (set vs i (full u))) (apply∗ 𝓤 (H.at full_share (spot_of 𝓤 H E i).0 (spot_of 𝓤 H E i).1 zero u) (mean 𝓛 (cells E
-        (set vs i (full u))))) $
-        move ! (1 ∷ 0 ∷ []) $ done !)
-      where
-        Back : Val → SProp 𝓤
-        Back u = wand 𝓤 (H.at full_share (spot_of 𝓤 H E i).0 (spot_of 𝓤 H E i).1 zero u) (mean 𝓛 (cells E (set vs i (full u))))
+module _ {M : Type 1} {𝓤 : Ura M} (𝓛 : Logic 𝓤) where
+  open 𝓛 use {H}
 
-    -- the cell of a local that holds v
-    held : (E : Env 𝓤 H) (vs : List (Option Val)) (i : ℕ) (v : Val) → Has E vs i → HoldsAt vs i v
-        → ent 𝓤 (mean 𝓛 (cells E vs)) (sep 𝓤 (H.at full_share (spot_of 𝓤 H E i).0 (spot_of 𝓤 H E i).1 zero v)
-        (all 𝓤 (λ (u : Val). wand 𝓤 (H.at full_share (spot_of 𝓤 H E i).0 (spot_of 𝓤 H E i).1 zero u) (mean 𝓛 (cells E (set vs i (full u)))))))
-    held [] vs i v has is = absurd has
-    held (e ∷ E) [] i v has is = absurd has
-    held (e ∷ E) (x ∷ vs) zero v has is =
-        subst (λ (y : Option Val). ent 𝓤 (mean 𝓛 (cells (e ∷ E) (y ∷ vs))) (sep 𝓤 (H.at full_share e.0 e.1 zero v)
-        (all 𝓤 (λ (u : Val). wand 𝓤 (H.at full_share e.0 e.1 zero u) (mean 𝓛 (cells (e ∷ E) (full u ∷ vs))))))) (sym is)
-        (qed 𝓛 (cells (e ∷ E) (full v ∷ vs) ∷ []) ∵ split ! $ split ! $ frame ! $
-        each ! (λ (u : Val). wand 𝓤 (H.at full_share e.0 e.1 zero u) (mean 𝓛 (cells (e ∷ E) (full u ∷ vs)))) (λ u.
-        assume ! (‵ (fat full_share e.0 e.1 zero u)) $ join ! $ done !))
-    held (e ∷ E) (x ∷ vs) (suc i) v has is =
-        qed 𝓛 (cells (e ∷ E) (x ∷ vs) ∷ []) ∵ split ! $ move ! (1 ∷ []) $
-        use1 𝓛 (‵ (fat full_share (spot_of 𝓤 H E i).0 (spot_of 𝓤 H E i).1 zero v) ⊛ raw (all 𝓤 Back)) (held E vs i v has is) $ split ! $ frame ! $
-        each ! (λ (u : Val). wand 𝓤 (H.at full_share (spot_of 𝓤 H E i).0 (spot_of 𝓤 H E i).1 zero u) (mean 𝓛 (cells (e ∷ E) (x ∷ set vs i
-        (full u))))) (λ u.
-        assume ! (‵ (fat full_share (spot_of 𝓤 H E i).0 (spot_of 𝓤 H E i).1 zero u)) $ move ! (1 ∷ []) $
-        use1 𝓛 (raw (Back u)) (all_e 𝓤 Back u) $ move ! (1 ∷ 0 ∷ []) $
-        use2 𝓛 (cells E (set vs i (full u))) (apply∗ 𝓤 (H.at full_share (spot_of 𝓤 H E i).0 (spot_of 𝓤 H E i).1 zero u) (mean 𝓛 (cells E
-        (set vs i (full u))))) $
-        move ! (1 ∷ 0 ∷ []) $ done !)
-      where
-        Back : Val → SProp 𝓤
-        Back u = wand 𝓤 (H.at full_share (spot_of 𝓤 H E i).0 (spot_of 𝓤 H E i).1 zero u) (mean 𝓛 (cells E (set vs i (full u))))
+  -- room for local i, and the locals again once something lies there
+  taken : (E : Env 𝓤 H) (vs : List (Option Val)) (i : ℕ) → Has 𝓤 H E vs i
+      → ent 𝓤 (mean 𝓛 (cells 𝓤 H E vs)) (sep 𝓤 (H.room (spot_of 𝓤 H E i).0 (spot_of 𝓤 H E i).1 zero)
+      (all 𝓤 (λ (u : Val). wand 𝓤 (H.at full_share (spot_of 𝓤 H E i).0 (spot_of 𝓤 H E i).1 zero u) (mean 𝓛 (cells 𝓤 H E (set vs i (full u)))))))
+  taken [] vs i has = absurd has
+  taken (e ∷ E) [] i has = absurd has
+  taken (e ∷ E) (empty ∷ vs) zero has =
+      qed 𝓛 (cells 𝓤 H (e ∷ E) (empty ∷ vs) ∷ []) ∵ split ! $ split ! $ frame ! $
+      each ! (λ (u : Val). wand 𝓤 (H.at full_share e.0 e.1 zero u) (mean 𝓛 (cells 𝓤 H (e ∷ E) (full u ∷ vs)))) (λ u.
+      assume ! (‵ (fat full_share e.0 e.1 zero u)) $ join ! $ done !)
+  taken (e ∷ E) (full v ∷ vs) zero has =
+      qed 𝓛 (cells 𝓤 H (e ∷ E) (full v ∷ vs) ∷ []) ∵ split ! $ split ! $ forget ! 0 refl $ frame ! $
+      each ! (λ (u : Val). wand 𝓤 (H.at full_share e.0 e.1 zero u) (mean 𝓛 (cells 𝓤 H (e ∷ E) (full u ∷ vs)))) (λ u.
+      assume ! (‵ (fat full_share e.0 e.1 zero u)) $ join ! $ done !)
+  taken (e ∷ E) (x ∷ vs) (suc i) has =
+      qed 𝓛 (cells 𝓤 H (e ∷ E) (x ∷ vs) ∷ []) ∵ split ! $ move ! (1 ∷ []) $
+      use1 𝓛 (‵ (froom (spot_of 𝓤 H E i).0 (spot_of 𝓤 H E i).1 zero) ⊛ raw (all 𝓤 Back)) (taken E vs i has) $ split ! $ frame ! $
+      each ! (λ (u : Val). wand 𝓤 (H.at full_share (spot_of 𝓤 H E i).0 (spot_of 𝓤 H E i).1 zero u) (mean 𝓛 (cells 𝓤 H (e ∷ E) (x ∷ set vs i
+      (full u))))) (λ u.
+      assume ! (‵ (fat full_share (spot_of 𝓤 H E i).0 (spot_of 𝓤 H E i).1 zero u)) $ move ! (1 ∷ []) $
+      use1 𝓛 (raw (Back u)) (all_e 𝓤 Back u) $ move ! (1 ∷ 0 ∷ []) $
+      use2 𝓛 (cells 𝓤 H E (set vs i (full u))) (apply∗ 𝓤 (H.at full_share (spot_of 𝓤 H E i).0 (spot_of 𝓤 H E i).1 zero u) (mean 𝓛 (cells 𝓤 H E
+      (set vs i (full u))))) $
+      move ! (1 ∷ 0 ∷ []) $ done !)
+    where
+      Back : Val → SProp 𝓤
+      Back u = wand 𝓤 (H.at full_share (spot_of 𝓤 H E i).0 (spot_of 𝓤 H E i).1 zero u) (mean 𝓛 (cells 𝓤 H E (set vs i (full u))))
+
+  -- the cell of a local that holds v
+  held : (E : Env 𝓤 H) (vs : List (Option Val)) (i : ℕ) (v : Val) → Has 𝓤 H E vs i → HoldsAt vs i v
+      → ent 𝓤 (mean 𝓛 (cells 𝓤 H E vs)) (sep 𝓤 (H.at full_share (spot_of 𝓤 H E i).0 (spot_of 𝓤 H E i).1 zero v)
+      (all 𝓤 (λ (u : Val). wand 𝓤 (H.at full_share (spot_of 𝓤 H E i).0 (spot_of 𝓤 H E i).1 zero u) (mean 𝓛 (cells 𝓤 H E (set vs i (full u)))))))
+  held [] vs i v has is = absurd has
+  held (e ∷ E) [] i v has is = absurd has
+  held (e ∷ E) (x ∷ vs) zero v has is =
+      subst (λ (y : Option Val). ent 𝓤 (mean 𝓛 (cells 𝓤 H (e ∷ E) (y ∷ vs))) (sep 𝓤 (H.at full_share e.0 e.1 zero v)
+      (all 𝓤 (λ (u : Val). wand 𝓤 (H.at full_share e.0 e.1 zero u) (mean 𝓛 (cells 𝓤 H (e ∷ E) (full u ∷ vs))))))) (sym is)
+      (qed 𝓛 (cells 𝓤 H (e ∷ E) (full v ∷ vs) ∷ []) ∵ split ! $ split ! $ frame ! $
+      each ! (λ (u : Val). wand 𝓤 (H.at full_share e.0 e.1 zero u) (mean 𝓛 (cells 𝓤 H (e ∷ E) (full u ∷ vs)))) (λ u.
+      assume ! (‵ (fat full_share e.0 e.1 zero u)) $ join ! $ done !))
+  held (e ∷ E) (x ∷ vs) (suc i) v has is =
+      qed 𝓛 (cells 𝓤 H (e ∷ E) (x ∷ vs) ∷ []) ∵ split ! $ move ! (1 ∷ []) $
+      use1 𝓛 (‵ (fat full_share (spot_of 𝓤 H E i).0 (spot_of 𝓤 H E i).1 zero v) ⊛ raw (all 𝓤 Back)) (held E vs i v has is) $ split ! $ frame ! $
+      each ! (λ (u : Val). wand 𝓤 (H.at full_share (spot_of 𝓤 H E i).0 (spot_of 𝓤 H E i).1 zero u) (mean 𝓛 (cells 𝓤 H (e ∷ E) (x ∷ set vs i
+      (full u))))) (λ u.
+      assume ! (‵ (fat full_share (spot_of 𝓤 H E i).0 (spot_of 𝓤 H E i).1 zero u)) $ move ! (1 ∷ []) $
+      use1 𝓛 (raw (Back u)) (all_e 𝓤 Back u) $ move ! (1 ∷ 0 ∷ []) $
+      use2 𝓛 (cells 𝓤 H E (set vs i (full u))) (apply∗ 𝓤 (H.at full_share (spot_of 𝓤 H E i).0 (spot_of 𝓤 H E i).1 zero u) (mean 𝓛 (cells 𝓤 H E
+      (set vs i (full u))))) $
+      move ! (1 ∷ 0 ∷ []) $ done !)
+    where
+      Back : Val → SProp 𝓤
+      Back u = wand 𝓤 (H.at full_share (spot_of 𝓤 H E i).0 (spot_of 𝓤 H E i).1 zero u) (mean 𝓛 (cells 𝓤 H E (set vs i (full u))))
 
 set-held : (vs : List (Option Val)) (i : ℕ) (v : Val) → HoldsAt vs i v → set vs i (full v) ≡ vs
 set-held [] i v is = refl
@@ -129,42 +129,42 @@ module _ {M : Type 1} {𝓤 : Ura M} {𝓛 : Logic 𝓤} {K : Type 0} where
   -- local i, which holds v, as a part of the entry
   open 𝓛 use {H}
 
-  pub the : K → (E : Env 𝓤 H) (vs : List (Option Val)) (i : ℕ) {v : Val} → Has 𝓛 E vs i → HoldsAt vs i v
-      → Part K 𝓛 (cells 𝓛 E vs) full_share (spot_of 𝓤 H E i).0 (spot_of 𝓤 H E i).1 zero v (λ u. cells 𝓛 E (set vs i (full u)))
+  pub the : K → (E : Env 𝓤 H) (vs : List (Option Val)) (i : ℕ) {v : Val} → Has 𝓤 H E vs i → HoldsAt vs i v
+      → Part K 𝓛 (cells 𝓤 H E vs) full_share (spot_of 𝓤 H E i).0 (spot_of 𝓤 H E i).1 zero v (λ u. cells 𝓤 H E (set vs i (full u)))
   the t E vs i {v} has is = record {
     out = held 𝓛 E vs i v has is;
-    same = ap (λ (us : List (Option Val)). cells 𝓛 E us)
+    same = ap (λ (us : List (Option Val)). cells 𝓤 H E us)
         (set-held vs i v is);
   }
 
   -- local i is written
-  pub fill_local : K → {Γ : List (Item 𝓤)} (n : ℕ) (E : Env 𝓤 H) (vs : List (Option Val)) (i : ℕ) {v : Val} → nth 𝓛 n Γ ≡ cells 𝓛 E vs
-      → Has 𝓛 E vs i
+  pub fill_local : K → {Γ : List (Item 𝓤)} (n : ℕ) (E : Env 𝓤 H) (vs : List (Option Val)) (i : ℕ) {v : Val} → nth 𝓛 n Γ ≡ cells 𝓤 H E vs
+      → Has 𝓤 H E vs i
       → Holds (has_ty (spot_of 𝓤 H E i).0 v) × WT v
-      → Writes K 𝓛 Γ (spot_of 𝓤 H E i).0 (spot_of 𝓤 H E i).1 zero v (put 𝓛 n (cells 𝓛 E (set vs i (full v))) Γ)
+      → Writes K 𝓛 Γ (spot_of 𝓤 H E i).0 (spot_of 𝓤 H E i).1 zero v (put 𝓛 n (cells 𝓤 H E (set vs i (full v))) Γ)
   fill_local t {Γ} n E vs i {v} e has wt = record {
     go = λ P k.
-        via 𝓤 (sep 𝓤 (mean 𝓛 (cells 𝓛 E vs)) (⋆ 𝓛 (del 𝓛 n Γ)))
+        via 𝓤 (sep 𝓤 (mean 𝓛 (cells 𝓤 H E vs)) (⋆ 𝓛 (del 𝓛 n Γ)))
         (subst (λ (j : Item 𝓤). ent 𝓤 (⋆ 𝓛 Γ) (sep 𝓤 (mean 𝓛 j) (⋆ 𝓛 (del 𝓛 n Γ)))) e (pull 𝓛 n Γ))
-        (qed 𝓛 (cells 𝓛 E vs ∷ raw (⋆ 𝓛 (del 𝓛 n Γ)) ∷ []) ∵ check ! wt $
+        (qed 𝓛 (cells 𝓤 H E vs ∷ raw (⋆ 𝓛 (del 𝓛 n Γ)) ∷ []) ∵ check ! wt $
         use1 𝓛 (‵ (froom (spot_of 𝓤 H E i).0 (spot_of 𝓤 H E i).1 zero) ⊛ raw (all 𝓤 Back)) (taken 𝓛 E vs i has) $ split ! $ frame ! $
         assume ! (‵ (fat full_share (spot_of 𝓤 H E i).0 (spot_of 𝓤 H E i).1 zero v)) $ move ! (1 ∷ []) $ use1 𝓛 (raw (Back v)) (all_e 𝓤 Back v) $
         move ! (1 ∷ 0 ∷ []) $
-        use2 𝓛 (cells 𝓛 E (set vs i (full v))) (apply∗ 𝓤 (H.at full_share (spot_of 𝓤 H E i).0 (spot_of 𝓤 H E i).1 zero v) (mean 𝓛
-        (cells 𝓛 E (set vs i (full v))))) $
-        by ! (via 𝓤 (⋆ 𝓛 (put 𝓛 n (cells 𝓛 E (set vs i (full v))) Γ)) (fill 𝓛 n (cells 𝓛 E (set vs i (full v))) Γ) k));
+        use2 𝓛 (cells 𝓤 H E (set vs i (full v))) (apply∗ 𝓤 (H.at full_share (spot_of 𝓤 H E i).0 (spot_of 𝓤 H E i).1 zero v) (mean 𝓛
+        (cells 𝓤 H E (set vs i (full v))))) $
+        by ! (via 𝓤 (⋆ 𝓛 (put 𝓛 n (cells 𝓤 H E (set vs i (full v))) Γ)) (fill 𝓛 n (cells 𝓤 H E (set vs i (full v))) Γ) k));
   }
     where
       Back : Val → SProp 𝓤
-      Back u = wand 𝓤 (H.at full_share (spot_of 𝓤 H E i).0 (spot_of 𝓤 H E i).1 zero u) (mean 𝓛 (cells 𝓛 E (set vs i (full u))))
+      Back u = wand 𝓤 (H.at full_share (spot_of 𝓤 H E i).0 (spot_of 𝓤 H E i).1 zero u) (mean 𝓛 (cells 𝓤 H E (set vs i (full u))))
 
   -- the locals come, and go
   pub alloc_all : K → (ls : List Local) {Γ : List (Item 𝓤)} {Kt : Env 𝓤 H → Goal 𝓤 H}
-      → ((bs : Blocks ls) → Seq K 𝓛 (cells 𝓛 (blocks 𝓛 ls bs) (rooms ls) ∷ Γ) (Kt (blocks 𝓛 ls bs))) → Seq K 𝓛 Γ (allocs ls Kt)
+      → ((bs : Blocks ls) → Seq K 𝓛 (cells 𝓤 H (blocks 𝓤 H ls bs) (rooms ls) ∷ Γ) (Kt (blocks 𝓤 H ls bs))) → Seq K 𝓛 Γ (allocs ls Kt)
   alloc_all t [] k = alloc0 t $ nothing t $ k tt
   alloc_all t (local τ h ∷ ls) k = alloc1 t (λ b. alloc_all t ls (λ bs. move t (1 ∷ 2 ∷ []) $ join t $ join t $ k (b, bs)))
 
-  pub free_all : K → (E : Env 𝓤 H) (vs : List (Option Val)) {Γ : List (Item 𝓤)} {g : Goal 𝓤 H} → Fits 𝓛 E vs → Step K 𝓛 Γ g (cells 𝓛 E vs ∷ Γ)
+  pub free_all : K → (E : Env 𝓤 H) (vs : List (Option Val)) {Γ : List (Item 𝓤)} {g : Goal 𝓤 H} → Fits 𝓤 H E vs → Step K 𝓛 Γ g (cells 𝓤 H E vs ∷ Γ)
       (frees E g)
   free_all t [] [] fits = step (λ s. drop t $ free0 t $ s)
   free_all t [] (x ∷ vs) fits = absurd fits
@@ -174,9 +174,9 @@ module _ {M : Type 1} {𝓤 : Ura M} {𝓛 : Logic 𝓤} {K : Type 0} where
 
 module _ {M : Type 1} (𝓤 : Ura M) (H : Heap 𝓤) (e : Ty × ℕ) (E : Env 𝓤 H) where
   -- the first local takes a value
-  pub first-set : (vs : List (Option Val)) (v : Val) → Fits {𝓤 = 𝓤} _ (e ∷ E) vs
-      → (Has {𝓤 = 𝓤} _ (e ∷ E) vs zero × (Has {𝓤 = 𝓤} _ (e ∷ E) (set vs zero (full v)) zero × HoldsAt (set vs zero (full v)) zero v))
-      × Fits {𝓤 = 𝓤} _ (e ∷ E) (set vs zero (full v))
+  pub first-set : (vs : List (Option Val)) (v : Val) → Fits 𝓤 H (e ∷ E) vs
+      → (Has 𝓤 H (e ∷ E) vs zero × (Has 𝓤 H (e ∷ E) (set vs zero (full v)) zero × HoldsAt (set vs zero (full v)) zero v))
+      × Fits 𝓤 H (e ∷ E) (set vs zero (full v))
   first-set [] v fits = absurd fits
   first-set (x ∷ vs) v fits = ((tt, (tt, refl)), fits)
 
@@ -198,9 +198,9 @@ module _ {M : Type 1} (𝓤 : Ura M) (H : Heap 𝓤) where
 module _ {M : Type 1} {𝓤 : Ura M} {𝓛 : Logic 𝓤} {K : Type 0} where
   open 𝓛 use {H}
 
-  pub pass_all : K → (ls : List Local) (bs : Blocks ls) (us : List Val) {Γ : List (Item 𝓤)} {g : Goal 𝓤 H} → AllTyped 𝓤 H (blocks 𝓛 ls bs) us
-      → Step K 𝓛 (cells 𝓛 (blocks 𝓛 ls bs) (stored us (rooms ls)) ∷ Γ) g (cells 𝓛 (blocks 𝓛 ls bs) (rooms ls) ∷ Γ)
-      (passes (blocks 𝓛 ls bs) us g)
+  pub pass_all : K → (ls : List Local) (bs : Blocks ls) (us : List Val) {Γ : List (Item 𝓤)} {g : Goal 𝓤 H} → AllTyped 𝓤 H (blocks 𝓤 H ls bs) us
+      → Step K 𝓛 (cells 𝓤 H (blocks 𝓤 H ls bs) (stored us (rooms ls)) ∷ Γ) g (cells 𝓤 H (blocks 𝓤 H ls bs) (rooms ls) ∷ Γ)
+      (passes (blocks 𝓤 H ls bs) us g)
   pass_all t ls bs [] typed = step (λ s. pass0 t $ s)
   pass_all t [] bs (u ∷ us) typed = absurd typed
   pass_all t (local τ h ∷ ls) bs (u ∷ us) typed = step (λ s.
@@ -238,15 +238,15 @@ module _ {M : Type 1} (𝓤 : Ura M) (H : Heap 𝓤) (E : Env 𝓤 H) where
   abbrev pub Addressing : ℕ → Ty → ℕ → ℕ → List Address → List (Option Val) → Type 0
   Addressing s σ b o [] vs = Unit {0}
   Addressing s σ b o (a ∷ ds) vs =
-      (((Has {𝓤 = 𝓤} _ E vs s × HoldsAt vs s (vptr b o)) × (field_of σ a.field ≡ full (a.ty, a.offset)))
-      × (Has {𝓤 = 𝓤} _ E vs a.to × (Holds (has_ty (spot_of 𝓤 H E a.to).0 (vptr b (o + a.offset))) × WT (vptr b (o + a.offset)))))
+      (((Has 𝓤 H E vs s × HoldsAt vs s (vptr b o)) × (field_of σ a.field ≡ full (a.ty, a.offset)))
+      × (Has 𝓤 H E vs a.to × (Holds (has_ty (spot_of 𝓤 H E a.to).0 (vptr b (o + a.offset))) × WT (vptr b (o + a.offset)))))
       × Addressing s σ b o ds (set vs a.to (full (vptr b (o + a.offset))))
 
   abbrev pub HoldAll : List (Option Val) → List ℕ → List Val → Type 0
   HoldAll vs [] [] = Unit {0}
   HoldAll vs [] (u ∷ us) = ⊥
   HoldAll vs (i ∷ is) [] = ⊥
-  HoldAll vs (i ∷ is) (u ∷ us) = (Has {𝓤 = 𝓤} _ E vs i × HoldsAt vs i u) × HoldAll vs is us
+  HoldAll vs (i ∷ is) (u ∷ us) = (Has 𝓤 H E vs i × HoldsAt vs i u) × HoldAll vs is us
 
 module _ {M : Type 1} {𝓤 : Ura M} {𝓛 : Logic 𝓤} {K : Type 0} {C : Calls 𝓤 𝓛.H} {Λ : Loops 𝓤 𝓛.H} {q : Post 𝓤 𝓛.H} where
   open 𝓛 use {H}
@@ -254,7 +254,7 @@ module _ {M : Type 1} {𝓤 : Ura M} {𝓛 : Logic 𝓤} {K : Type 0} {C : Calls
   pub takes : K → (E : Env 𝓤 H) (s : ℕ) (σ : Ty) (b o : ℕ) (ds : List Address) (vs : List (Option Val)) {i : Item 𝓤} {Δ : List
       (Item 𝓤)} {rest : Code}
       → Addressing 𝓤 H E s σ b o ds vs
-      → Step K 𝓛 (i ∷ cells 𝓛 E (addressed b o ds vs) ∷ Δ) (runs C Λ E rest q) (i ∷ cells 𝓛 E vs ∷ Δ) (runs C Λ E (taking s σ ds rest) q)
+      → Step K 𝓛 (i ∷ cells 𝓤 H E (addressed b o ds vs) ∷ Δ) (runs C Λ E rest q) (i ∷ cells 𝓤 H E vs ∷ Δ) (runs C Λ E (taking s σ ds rest) q)
   takes t E s σ b o [] vs ok = step (λ k. k)
   takes t E s σ b o (a ∷ ds) vs ok = step (λ k.
       assigns t (addr t (from t (hop t (look_in t 1 (the t E vs s ok.0.0.0.0 ok.0.0.0.1)) (fld t ok.0.0.1 (stop t))))) (from t
@@ -266,7 +266,7 @@ module _ {M : Type 1} {𝓤 : Ura M} {𝓛 : Logic 𝓤} {K : Type 0} where
   open 𝓛 use {H}
 
   pub loads : K → (E : Env 𝓤 H) (vs : List (Option Val)) (is : List ℕ) (us : List Val) {i j : Item 𝓤} {Δ : List (Item 𝓤)}
-      → HoldAll 𝓤 H E vs is us → Opds K 𝓛 (i ∷ j ∷ cells 𝓛 E vs ∷ Δ) E (copies is) us
+      → HoldAll 𝓤 H E vs is us → Opds K 𝓛 (i ∷ j ∷ cells 𝓤 H E vs ∷ Δ) E (copies is) us
   loads t E vs [] [] ok = no_more t
   loads t E vs [] (u ∷ us) ok = absurd ok
   loads t E vs (i ∷ is) [] ok = absurd ok

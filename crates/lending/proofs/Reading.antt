@@ -56,7 +56,7 @@ module _ {R : RattleType} {σ : Ty} where
       abbrev pub Reading : ℕ → ℕ → ℕ → ℕ → List (Read R σ) → List (Option Val) → Type 0
       Reading s b o i [] vs = Unit {0}
       Reading s b o i (r ∷ rs) vs =
-          ((Has {𝓤 = 𝓤} _ E vs s × HoldsAt vs s (vptr b o)) × (Has {𝓤 = 𝓤} _ E vs i × ((spot_of 𝓤 H E i).0 ≡ r.value.ty)))
+          ((Has 𝓤 H E vs s × HoldsAt vs s (vptr b o)) × (Has 𝓤 H E vs i × ((spot_of 𝓤 H E i).0 ≡ r.value.ty)))
           × Reading s b o (suc i) rs (set vs i (full (spelling r)))
 
 module _ {M : Type 1} {𝓤 : Ura M} {𝓛 : Logic 𝓤} {K : Type 0} {C : Calls 𝓤 𝓛.H} {Λ : Loops 𝓤 𝓛.H} {q : Post 𝓤 𝓛.H}
@@ -65,8 +65,8 @@ module _ {M : Type 1} {𝓤 : Ura M} {𝓛 : Logic 𝓤} {K : Type 0} {C : Calls
 
   pub reads_in : K → (E : Env 𝓤 H) (s b o : ℕ) (t : Share) (x : R.Denot) (i : ℕ) (rs : List (Read R σ)) (vs : List (Option Val))
       {Δ : List (Item 𝓤)} {rest : Code} → Reading x 𝓤 H E s b o i rs vs
-      → (Told x rs → Seq K 𝓛 (‵ (part_at R t x b o) ∷ cells 𝓛 E (have-read x i rs vs) ∷ Δ) (runs C Λ E rest q))
-      → Seq K 𝓛 (‵ (part_at R t x b o) ∷ cells 𝓛 E vs ∷ Δ) (runs C Λ E (reading s i rs rest) q)
+      → (Told x rs → Seq K 𝓛 (‵ (part_at R t x b o) ∷ cells 𝓤 H E (have-read x i rs vs) ∷ Δ) (runs C Λ E rest q))
+      → Seq K 𝓛 (‵ (part_at R t x b o) ∷ cells 𝓤 H E vs ∷ Δ) (runs C Λ E (reading s i rs rest) q)
   reads_in t E s b o u x i [] vs ok k = k tt
   reads_in t E s b o u x i (r ∷ rs) vs ok k =
       typed_within t 0 r.value.spelt refl (r.within 𝓛 u x b o) (λ wt is.

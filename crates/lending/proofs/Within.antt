@@ -4,7 +4,7 @@ use Prim.Native.Nat.{ℕ}
 use mathlib.Core.List.{List, [], ◌∷◌}
 use lib.Dec.{T as Holds}
 use seplogic.Ra.Ura.{Ura}
-use seplogic.Ra.TreeShare.{full_share}
+use base.Fraction.{full_share}
 use mir.Syntax.{Ty}
 use mir.Raw.{raw as raw_ty}
 use mir.Val.{Val, WT, has_ty}
@@ -46,16 +46,16 @@ module _ {M : Type 1} {𝓤 : Ura M} (𝓛 : Logic 𝓤) (q : Share) (F : Rattle
     (f : F.Denot) (b o : ℕ) where
   -- memory as a cell with what the value owns, and back
   pub cell_out : ent 𝓤 (sem 𝓛 (part_at F q f b o))
-      (mean 𝓛 (given (Is F f (s.val f ∷ [])) (‵ (fat q δ b o (s.val f)) ⊛ ‵ (F.own f (s.val f ∷ [])))))
+      (mean 𝓛 (given (Is F f (s.val f ∷ [])) (‵ (fat q δ b o (s.val f)) ⊛ ‵ (F.own_val f (s.val f ∷ [])))))
   cell_out =
       qed 𝓛 (‵ (part_at F q f b o) ∷ []) ∵
-      use1 𝓛 (some (λ (v : Val). ‵ (fat q δ b o v) ⊛ ‵ (F.own f (v ∷ [])))) (part_out_at 𝓛 F s.one q f b o δ s.same) $
+      use1 𝓛 (some (λ (v : Val). ‵ (fat q δ b o v) ⊛ ‵ (F.own_val f (v ∷ [])))) (part_out_at 𝓛 F s.one q f b o δ s.same) $
       pick ! (λ v. split ! $ move ! (1 ∷ []) $ peeks ! F (Is F) (shows 𝓛 F) f (v ∷ []) (λ is.
-      rewrite ! 0 (λ (us : List Val). ‵ (F.own f us)) (s.tells f (v ∷ []) is) refl $
+      rewrite ! 0 (λ (us : List Val). ‵ (F.own_val f us)) (s.tells f (v ∷ []) is) refl $
       rewrite ! 1 (λ (us : List Val). ‵ (fat q δ b o (denote.Steps.only us))) (s.tells f (v ∷ []) is) refl $
       check ! (subst (Is F f) (s.tells f (v ∷ []) is) is) $ move ! (1 ∷ 0 ∷ []) $ done !))
 
-  pub cell_in : ent 𝓤 (mean 𝓛 (‵ (fat q δ b o (s.val f)) ⊛ ‵ (F.own f (s.val f ∷ [])))) (sem 𝓛 (part_at F q f b o))
+  pub cell_in : ent 𝓤 (mean 𝓛 (‵ (fat q δ b o (s.val f)) ⊛ ‵ (F.own_val f (s.val f ∷ [])))) (sem 𝓛 (part_at F q f b o))
   cell_in = part_in_at 𝓛 F s.one q f b o δ s.same (s.val f)
 
 module _ {M : Type 1} {𝓤 : Ura M} (𝓛 : Logic 𝓤) (Γ : List (Item 𝓤)) where
@@ -71,7 +71,7 @@ module _ {M : Type 1} {𝓤 : Ura M} (𝓛 : Logic 𝓤) (Γ : List (Item 𝓤))
       (subst (λ (j : Item 𝓤). ent 𝓤 (⋆ 𝓛 Γ) (sep 𝓤 (mean 𝓛 j) (⋆ 𝓛 (del 𝓛 n Γ)))) e (pull 𝓛 n Γ))
       (qed 𝓛 (‵ (part_at R q h b o) ∷ raw (⋆ 𝓛 (del 𝓛 n Γ)) ∷ []) ∵
       use1 𝓛 (‵ (part_at F q f b o') ⊛ raw (wand 𝓤 (sem 𝓛 (part_at F q f b o')) (sem 𝓛 (part_at R q h b o)))) w.cut $ split ! $
-      use1 𝓛 (given (Is F f (s.val f ∷ [])) (‵ (fat q δ b o' (s.val f)) ⊛ ‵ (F.own f (s.val f ∷ [])))) (cell_out 𝓛 q F δ s f b o') $
+      use1 𝓛 (given (Is F f (s.val f ∷ [])) (‵ (fat q δ b o' (s.val f)) ⊛ ‵ (F.own_val f (s.val f ∷ [])))) (cell_out 𝓛 q F δ s f b o') $
       learn ! (λ is. split ! $ check ! is $ frame ! $ assume ! (‵ (fat q δ b o' (s.val f))) $
       use2 𝓛 (‵ (part_at F q f b o')) (cell_in 𝓛 q F δ s f b o') $
       use2 𝓛 (‵ (part_at R q h b o)) (apply∗ 𝓤 (sem 𝓛 (part_at F q f b o')) (sem 𝓛 (part_at R q h b o))) $
@@ -123,7 +123,7 @@ module _ {M : Type 1} {𝓤 : Ura M} {𝓛 : Logic 𝓤} {K : Type 0} {Γ : List
         (qed 𝓛 (‵ (part_at R full_share h b o) ∷ raw (⋆ 𝓛 (del 𝓛 n Γ)) ∷ []) ∵ check ! wt $
         use1 𝓛 (‵ (part_at F full_share f b o') ⊛ raw (wand 𝓤 (sem 𝓛 (part_at F full_share f' b o')) (sem 𝓛 (part_at R full_share h' b o))))
         w.cut $ split ! $
-        use1 𝓛 (given (Is F f (s.val f ∷ [])) (‵ (fat full_share δ b o' (s.val f)) ⊛ ‵ (F.own f (s.val f ∷ []))))
+        use1 𝓛 (given (Is F f (s.val f ∷ [])) (‵ (fat full_share δ b o' (s.val f)) ⊛ ‵ (F.own_val f (s.val f ∷ []))))
         (cell_out 𝓛 full_share F δ s f b o') $
         learn ! (λ _. split ! $ move ! (1 ∷ []) $ drop ! $
         use1 𝓛 (raw (H.room δ b o')) (𝓛.laws.at_room δ b o' (s.val f)) $ frame ! $ assume ! (‵ (fat full_share δ b o' (s.val f'))) $
