@@ -1,6 +1,6 @@
-/* The panel of a bake board as a component: link libmizzencord.a, which `rt staticlib mizzencord` writes for x86-64. Only the two functions
- * over whole shifts, mizzencord_print and mizzencord_run, are in libmizzencord_tools.a, which `rt staticlib mizzencord_tools` writes. Both
- * may be linked into one program.
+/* The panel of a bake board as a component: link libmizzencord.a, which `rt lib` in crates/mizzencord writes for x86-64. Only the two
+ * functions over whole shifts, mizzencord_print and mizzencord_run, are in libmizzencord_tools.a, which `rt lib` in
+ * crates/mizzencord_tools writes. Both may be linked into one program.
  *
  * A panel is memory that the caller owns: make it with mizzencord_fresh, then hand it to the calls. A call changes that memory and
  * nothing else, keeps no pointer, asks for no heap and ends. Two calls on one panel must not run at the same time; panels are
