@@ -1,5 +1,7 @@
--- The refusal numbers of document 01, by its words; then that a number is not 5.
-use Rattle.std.specs.Prelude.{ℕ, ◌≡◌}
+-- The refusal numbers of document 01, by its words; that a number is not 5; and the numbers of the refusals and outcomes that the code has.
+use Rattle.std.specs.Prelude.{ℕ, ◌≡◌, Result, Ok, Err}
+use Rattle.request.specs.declared.refusal.Refusal.{Refusal}
+use Rattle.request.specs.declared.refusal.Refusal.TheVariants as Word
 
 -- no refusal
 abbrev pub accepted : ℕ
@@ -72,3 +74,33 @@ bad_context = 21
 -- w is not 5, clock back
 abbrev pub NotClockBack : ℕ → Type 0
 NotClockBack w = w ≡ clock_back → ⊥
+
+-- ---- the refusals that the code has
+
+-- the number of a refusal
+abbrev pub number_of : Refusal → ℕ
+number_of Word.BadShop = bad_shop
+number_of Word.BadNumber = bad_number
+number_of Word.BadOperation = bad_operation
+number_of Word.OwnEcho = own_echo
+number_of Word.ShiftFull = shift_full
+number_of Word.HeldAlready = held_already
+number_of Word.NumberClash = number_clash
+number_of Word.NotHere = not_here
+number_of Word.Weak = weak
+number_of Word.SettledAlready = settled_already
+number_of Word.Waits = waits
+number_of Word.NothingToUndo = nothing_to_undo
+number_of Word.UndoFirst = undo_first
+number_of Word.NothingToDo = nothing_to_do
+number_of Word.CutShort = cut_short
+number_of Word.BadLength = bad_length
+number_of Word.UnknownKind = unknown_kind
+number_of Word.SpareSet = spare_set
+number_of Word.NoRoom = no_room
+number_of Word.BadContext = bad_context
+
+-- the number of an outcome: that of its refusal, or that of none
+abbrev pub outcome_number : Result Unit Refusal → ℕ
+outcome_number (Ok u) = accepted
+outcome_number (Err w) = number_of w
