@@ -7,6 +7,9 @@
 
 pub mod mark;
 
+ghost use Rattle.std.specs.Prelude.{◌≡◌};
+ghost use Rattle.creek.specs.Replies.{reply_answer};
+
 use numbers::{Clock, Number};
 use request::{Asked, Request};
 
@@ -37,4 +40,19 @@ pub struct Answer {
     pub number: Number,
     pub refusal: u8,
     pub mark: u8,
+}
+
+// A reply as an answer, with no request.
+impl From<Reply> for Answer {
+    ghost from_gives = { λ r a. a ≡ reply_answer r };
+
+    fn from(r: Reply) -> Answer {
+        Answer {
+            request: request::none(),
+            response: r.response,
+            number: r.number,
+            refusal: r.refusal,
+            mark: r.mark,
+        }
+    }
 }

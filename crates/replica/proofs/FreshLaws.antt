@@ -2,7 +2,7 @@
 use Prim.Native.Nat.{ℕ}
 use native.Mathlib.Omega.{arith}
 use mathlib.Core.Path.{◌≡◌, refl, sym, ap, ◌∙◌}
-use mathlib.Core.Bool.{true, false, not, ◌&&◌}
+use mathlib.Core.Bool.{Bool, true, false, not, ◌&&◌}
 use lib.ListN.{length-replicate}
 use lib.Dec.{leb, ltb}
 use borrow.Author.Tests.{le-leb, lt-ltb, leb-true, ltb-true, not-false}
@@ -23,7 +23,9 @@ use Rattle.store.specs.Requests.{most_words}
 use Rattle.creek.specs.internal.Sound.{most_requests}
 use Rattle.creek.proofs.SoundLaws.{fresh_sound}
 use Rattle.replica.specs.State.{State, first_memory}
+use Rattle.replica.specs.declared.Shop.{Shop}
 use Rattle.replica.specs.Promises.{Fresh}
+use Rattle.replica.specs.Memory.{shop_opened}
 use Rattle.replica.specs.internal.Model.{plan_of, book_of, model, Inv, GoodShop, Empty}
 
 -- ---- the test of fresh
@@ -94,16 +96,25 @@ unfolding fresh bad_shop
 one_panel = refl
 
 module _ (panels own : ℕ) where
-  pub fresh-refused : bad_shop panels own ≡ true
+  refused_fresh : bad_shop panels own ≡ true
       → Fresh panels own (record { refusal = refused.bad_shop; state = first_memory 1 (panel_no 0) })
   unfolding fresh_refusal fresh
-  fresh-refused bad =
+  refused_fresh bad =
       let e = empty-made 1 (panel_no 0) one_panel_shop in
       record { refusal = rw bad; memory = rw bad; state = e.state ∙ one_panel ∙ rw bad; invariant = e.invariant }
 
-  pub fresh-opened : bad_shop panels own ≡ false
+  opened_fresh : bad_shop panels own ≡ false
       → Fresh panels own (record { refusal = refused.accepted; state = first_memory panels (panel_no own) })
   unfolding fresh_refusal
-  fresh-opened good =
+  opened_fresh good =
       let e = empty-made panels (panel_no own) (good_shop panels own good) in
       record { refusal = rw good; memory = rw good; state = e.state; invariant = e.invariant }
+
+-- of the shop that is opened where that one, bad or not, is asked for
+module _ (panels : ℕ) (own : PanelNo) (bad : Bool) (judged : bad ≡ bad_shop panels own.0) (shop : Shop)
+    (opened : shop ≡ shop_opened bad panels own) where
+  pub fresh-refused : bad ≡ true → Fresh panels own.0 (record { refusal = refused.bad_shop; state = first_memory shop.panels shop.own })
+  fresh-refused is = rw (opened, is) (refused_fresh panels own.0 (sym judged ∙ is))
+
+  pub fresh-opened : bad ≡ false → Fresh panels own.0 (record { refusal = refused.accepted; state = first_memory shop.panels shop.own })
+  fresh-opened is = rw (opened, is) (opened_fresh panels own.0 (sym judged ∙ is))

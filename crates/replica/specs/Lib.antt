@@ -1,5 +1,6 @@
 -- The definitions that the contracts cite.
 pub mod State
 pub mod Promises
+pub mod Memory
 pub mod Shown
 pub mod internal

@@ -1,5 +1,3 @@
 -- The map to `creek` and the invariant, and what only functions over the parts of a panel and proofs cite.
 pub mod Cores
 pub mod Model
-pub mod Parts
-pub mod Whole

@@ -1,4 +1,4 @@
-// A panel's memory, and the calls that make and show it, over lent parts of it.
+// A panel's memory as one struct, the calls that make and show it, and what a call answers where it has no request to say.
 //
 // A request is kept at its number's slot in `clocks`, `askings` and `contexts`. The standing order is the first `ordered` of `order`, of
 // which the first `committed` are committed; `held` has the numbers of the order, `settled` those of the committed ones. The requests on
@@ -6,47 +6,57 @@
 // list. By place on the board `saved` has what to roll back from and `responses` the response. So adjusting only lowers `executed`, an undo
 // takes the last off the stack, and an execution puts one on.
 //
-// A call takes the numbers that it reads and is lent the counts and the arrays that it uses, no others. Its contract holds of every panel
-// with these parts that came from fresh and the calls. The steps are not counted here: a call says how many it did, and whoever has the
-// counters counts them.
+// A call is lent the panel and changes it in place; its contract holds of every panel that came from fresh and the calls. The loops, which
+// are in the crates below, are lent the fields that they use, no others.
 //
 // Fresh is here, the showing calls in `showing`; invoke is the crate `invoking`, deliver `delivering`, commit `committing`, undo and
 // execute are `steps`, all due steps at once are `due`. `State` of `specs/` is the memory as one record, `Model` maps it to a replica of `creek`.
 #![tactic(auto)]
 
+pub mod replies;
 pub mod showing;
 
-ghost use Rattle.std.specs.Prelude.{◌≡◌, min};
-ghost use Rattle.numbers.specs.Numbers.{no_number};
-ghost use Rattle.sets.specs.Sets.{set_of};
+ghost use Rattle.std.specs.Prelude.{◌≡◌};
 ghost use Rattle.creek.specs.Calls.{bad_shop};
-ghost use Rattle.creek.specs.Replies.{refused_with, reply as reply_of, reply_answer, reply_in, steps_done, awaiting_after};
+ghost use Rattle.replica.specs.State.{first_memory};
 ghost use Rattle.replica.specs.Promises.{Fresh};
-ghost use Rattle.replica.specs.internal.Parts.{opened_by, opened_with_zeros};
+ghost use Rattle.replica.specs.Memory.{memory, no_spare, opened_by, shop_opened};
+ghost use Rattle.request.specs.Refusal.{outcome_number};
 
 use counters::Counters;
-use creek::mark::{NOBODY, STABLE, WEAK};
-use creek::{Answer, Reply};
-use numbers::{Number, PanelNo};
-use request::{Request, refusal};
-pub use showing::{
-    at_place, commits, committed, executions, made, owed, own, panels, register, requests, undos,
-};
+use numbers::PanelNo;
+pub use replies::{end_waiting, told};
+use request::Request;
+use request::refusal::Refusal;
 
-// What fresh returns beside the parts that it is lent.
-#[derive(Clone, Copy)]
-pub struct Opening {
+// A panel's memory. The spare bytes stand where the arrays would leave a gap: fresh clears them and no call changes them, so that equal
+// memories have equal bytes.
+#[repr(C)]
+#[derive(Drop)]
+pub struct Panel {
+    pub committed: usize,
+    pub ordered: usize,
+    pub executed: usize,
+    pub stacked: usize,
+    pub commits: u32,
+    pub clock: u32,
     pub counters: Counters,
-    pub own: PanelNo,
-    pub refusal: u8,
-}
-
-// A shop as it is opened, and refusal 1 where another was asked for.
-#[derive(Clone, Copy)]
-pub struct Shop {
     pub panels: u8,
     pub own: PanelNo,
-    pub refusal: u8,
+    pub events: u8,
+    pub spare: [u8; 5],
+    pub held: [u64; 8],
+    pub known: [u64; 8],
+    pub awaiting: [u64; 8],
+    pub clocks: [u32; 512],
+    pub askings: [u64; 512],
+    pub contexts: [u64; 4096],
+    pub order: [u16; 512],
+    pub stack: [u16; 512],
+    pub registers: [u32; 64],
+    pub saved: [u64; 512],
+    pub responses: [u32; 512],
+    pub settled: [u64; 8],
 }
 
 // A register's value, or refusal 3.
@@ -65,88 +75,99 @@ pub struct PlacedRequest {
     pub refusal: u8,
 }
 
-// Makes the lent parts those of a panel with empty lists and a zero board; a refused one is a one-panel shop, panel 0. The number of panels
-// is lent as `shop`.
-pub fn fresh(
-    committed: &mut usize,
-    ordered: &mut usize,
-    executed: &mut usize,
-    stacked: &mut usize,
-    commits: &mut u32,
-    clock: &mut u32,
-    shop: &mut u8,
-    events: &mut u8,
-    held: &mut [u64; 8],
-    known: &mut [u64; 8],
-    awaiting: &mut [u64; 8],
-    clocks: &mut [u32; 512],
-    askings: &mut [u64; 512],
-    contexts: &mut [u64; 4096],
-    order: &mut [u16; 512],
-    stack: &mut [u16; 512],
-    registers: &mut [u32; 64],
-    saved: &mut [u64; 512],
-    responses: &mut [u32; 512],
-    settled: &mut [u64; 8],
+// A shop: its number of panels and the own one.
+#[derive(Clone, Copy)]
+struct Shop {
     panels: u8,
     own: PanelNo,
-) -> Opening
-    ensures { Fresh panels own.0
-        (opened_by committed.new ordered.new executed.new stacked.new commits.new
-        clock.new shop.new events.new held.new known.new awaiting.new
-        clocks.new askings.new contexts.new order.new stack.new
-        registers.new saved.new responses.new settled.new result) }
-{
-    *committed = 0;
-    *ordered = 0;
-    *executed = 0;
-    *stacked = 0;
-    *commits = 0;
-    *clock = 0;
-    *events = 0;
-    *held = [0u64; 8];
-    *known = [0u64; 8];
-    *awaiting = [0u64; 8];
-    *clocks = [0u32; 512];
-    *askings = [0u64; 512];
-    *contexts = [0u64; 4096];
-    *order = [0u16; 512];
-    *stack = [0u16; 512];
-    *registers = [0u32; 64];
-    *saved = [0u64; 512];
-    *responses = [0u32; 512];
-    *settled = [0u64; 8];
-    let opened = shop_of(panels, own);
-    *shop = opened.panels;
-    let counters = Counters {
-        undos: 0,
-        executions: 0,
-    };
-    let own = opened.own;
-    Opening {
-        counters,
-        own,
-        refusal: opened.refusal,
+}
+
+impl Panel {
+    // A panel of that shop at a shift's first moment: zeros in everything else.
+    pub fn zeros(panels: u8, own: PanelNo) -> Panel
+        ensures state { memory result ≡ first_memory panels own }
+        ensures spare { result.spare ≡ no_spare }
+    {
+        Panel {
+            committed: 0,
+            ordered: 0,
+            executed: 0,
+            stacked: 0,
+            commits: 0,
+            clock: 0,
+            counters: Counters {
+                undos: 0,
+                executions: 0,
+            },
+            panels,
+            own,
+            events: 0,
+            spare: [0; 5],
+            held: [0; 8],
+            known: [0; 8],
+            awaiting: [0; 8],
+            clocks: [0; 512],
+            askings: [0; 512],
+            contexts: [0; 4096],
+            order: [0; 512],
+            stack: [0; 512],
+            registers: [0; 64],
+            saved: [0; 512],
+            responses: [0; 512],
+            settled: [0; 8],
+        }
+    }
+
+    // Makes this a panel of a shift's first moment, field by field in place, whatever it was; a refused one is a one-panel shop, panel 0.
+    pub fn fresh(&mut self, panels: u8, own: PanelNo) -> Result<(), Refusal>
+        ensures { Fresh panels own.0 (opened_by result self.new) × (self.new.spare ≡ no_spare) }
+    {
+        let bad = bad_shop(panels, own);
+        let opened = shop_of(bad, panels, own);
+        self.committed = 0;
+        self.ordered = 0;
+        self.executed = 0;
+        self.stacked = 0;
+        self.commits = 0;
+        self.clock = 0;
+        self.counters = Counters {
+            undos: 0,
+            executions: 0,
+        };
+        self.panels = opened.panels;
+        self.own = opened.own;
+        self.events = 0;
+        self.spare = [0; 5];
+        self.held = [0; 8];
+        self.known = [0; 8];
+        self.awaiting = [0; 8];
+        self.clocks = [0; 512];
+        self.askings = [0; 512];
+        self.contexts = [0; 4096];
+        self.order = [0; 512];
+        self.stack = [0; 512];
+        self.registers = [0; 64];
+        self.saved = [0; 512];
+        self.responses = [0; 512];
+        self.settled = [0; 8];
+        if bad {
+            return Err(Refusal::BadShop);
+        }
+        Ok(())
     }
 }
 
-// The shop that is opened for those numbers: a bad one is a one-panel shop, panel 0, and refusal 1. Its panel with a memory of zeros is
-// what fresh makes.
-pub fn shop_of(panels: u8, own: PanelNo) -> Shop
-    ensures { Fresh panels own.0 (opened_with_zeros result) }
+// The shop that is opened where that one is asked for: a bad one is a one-panel shop, panel 0.
+fn shop_of(bad: bool, panels: u8, own: PanelNo) -> Shop
+    ensures { result ≡ shop_opened bad panels own }
 {
-    if bad_shop(panels, own) {
+    if bad {
         return Shop {
             panels: 1,
             own: PanelNo(0),
-            refusal: refusal::BAD_SHOP,
         };
     }
-    Shop {
-        panels,
-        own,
-        refusal: refusal::ACCEPTED,
-    }
+    Shop { panels, own }
 }
 
 // The test behind refusal 1.
@@ -154,82 +175,4 @@ fn bad_shop(panels: u8, own: PanelNo) -> bool
     ensures { result ≡ bad_shop panels own.0 }
 {
     !((1 <= panels) & (panels <= numbers::MOST_PANELS)) | !(own.0 < panels)
-}
-
-// The lower of two numbers.
-pub fn lower(a: usize, b: usize) -> usize
-    ensures { result ≡ min a b }
-{
-    if a < b {
-        return a;
-    }
-    b
-}
-
-// The reply of a refused call that names no request.
-pub fn refusing(refusal: u8) -> Reply
-    ensures { result ≡ reply_in (refused_with refusal no_number) }
-{
-    Reply {
-        response: 0,
-        number: numbers::none(),
-        mark: NOBODY,
-        refusal,
-    }
-}
-
-// A reply as an answer, with no request.
-pub fn answer_of(r: Reply) -> Answer
-    ensures { result ≡ reply_answer r }
-{
-    let number = r.number;
-    Answer {
-        request: request::none(),
-        response: r.response,
-        number,
-        refusal: r.refusal,
-        mark: r.mark,
-    }
-}
-
-// How many steps an undo or an execution with that reply did.
-pub fn steps_done(r: Reply) -> u32
-    ensures { result ≡ steps_done r }
-{
-    (r.refusal == refusal::ACCEPTED) as u32
-}
-
-// The answer of a refused call that names no request.
-pub fn refused(refusal: u8) -> Answer
-    ensures { result ≡ refused_with refusal no_number }
-{
-    Answer {
-        refusal,
-        request: request::none(),
-        number: numbers::none(),
-        response: 0,
-        mark: NOBODY,
-    }
-}
-
-// The answer of an accepted call about n.
-pub fn reply(n: Number, response: u32, mark: u8) -> Answer
-    ensures { result ≡ reply_of n response mark }
-{
-    Answer {
-        refusal: refusal::ACCEPTED,
-        request: request::none(),
-        number: n,
-        response,
-        mark,
-    }
-}
-
-// Takes n from those who await a reply after one with that mark: weak and stable end the waiting.
-pub fn end_waiting(awaiting: &mut [u64; 8], n: Number, mark: u8)
-    ensures { set_of awaiting.new ≡ awaiting_after (set_of awaiting.old) n mark }
-{
-    if (mark == WEAK) | (mark == STABLE) {
-        members::leave(awaiting, n);
-    }
 }

@@ -1,5 +1,5 @@
 -- `replica::end_waiting` meets its contract.
-use Rattle.replica.proofs.end_waiting.Goals as goal
+use Rattle.replica.proofs.replies.end_waiting.Goals as goal
 
 pub returns-then-mark : goal.returns-then-mark
 returns-then-mark c = rw c.if-mark.true c.leave.ensures

@@ -1,0 +1,6 @@
+-- `Panel::owed` meets its contract.
+use Rattle.replica.proofs.ShowingLaws.{owed_are}
+use Rattle.replica.proofs.Panel.owed.Goals as goal
+
+pub returns : goal.returns
+returns c = owed_are _ c.requires

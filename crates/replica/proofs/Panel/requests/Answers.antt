@@ -1,0 +1,6 @@
+-- `Panel::requests` meets its contract.
+use Rattle.replica.proofs.ShowingLaws.{requests_are}
+use Rattle.replica.proofs.Panel.requests.Goals as goal
+
+pub returns : goal.returns
+returns c = requests_are _ c.requires

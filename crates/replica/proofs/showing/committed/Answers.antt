@@ -1,6 +1,0 @@
--- `showing::committed` meets its contract.
-use Rattle.replica.proofs.ShowingLaws.{committed_are}
-use Rattle.replica.proofs.showing.committed.Goals as goal
-
-pub returns : goal.returns
-returns c = record { shown = λ p inv. committed_are _ inv }

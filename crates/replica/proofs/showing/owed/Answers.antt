@@ -1,6 +1,0 @@
--- `showing::owed` meets its contract.
-use Rattle.replica.proofs.ShowingLaws.{owed_are}
-use Rattle.replica.proofs.showing.owed.Goals as goal
-
-pub returns : goal.returns
-returns c = record { shown = λ p inv. owed_are _ inv }

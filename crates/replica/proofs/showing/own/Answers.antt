@@ -1,6 +1,0 @@
--- `showing::own` meets its contract.
-use Rattle.replica.proofs.ShowingLaws.{own_is}
-use Rattle.replica.proofs.showing.own.Goals as goal
-
-pub returns : goal.returns
-returns c = record { shown = λ p inv. own_is _ inv }

@@ -1,6 +1,0 @@
--- `showing::panels` meets its contract.
-use Rattle.replica.proofs.ShowingLaws.{panels_are}
-use Rattle.replica.proofs.showing.panels.Goals as goal
-
-pub returns : goal.returns
-returns c = record { shown = λ p inv. panels_are _ inv }

@@ -1,8 +1,0 @@
--- `showing::undos` meets its contract.
-use mathlib.Core.Path.{refl}
-use Rattle.replica.specs.internal.Model.{model}
-use Rattle.replica.proofs.showing.undos.Goals as goal
-
-pub returns : goal.returns
-unfolding model
-returns c = record { shown = λ p core. refl }
