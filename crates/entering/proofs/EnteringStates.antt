@@ -17,9 +17,10 @@ use Rattle.creek.proofs.HeldLaws.{good-request, widened, held-few}
 use Rattle.creek.proofs.AcceptanceLaws.{New}
 use Rattle.creek.proofs.EnteredLaws.{entered-length, entered_sound}
 use Rattle.replica.specs.State.{State}
+use Rattle.replica.specs.declared.Panel.{Panel}
 use Rattle.replica.specs.internal.Model.{plan_of, Inv}
 use Rattle.store.specs.Requests.{request_of}
-use Rattle.entering.specs.Entering.{Enters, Lent, EnterAsks, EnterKept}
+use Rattle.entering.specs.Entering.{Enters, EnterAsks, EnterKept}
 use Rattle.replica.proofs.ModelLaws.{plan_sound, order-planned, length-order}
 use Rattle.replica.proofs.RequestLaws.{count_held}
 
@@ -51,10 +52,10 @@ module _ (p : State) (x : Request) (inv : Inv p) (new : New (plan_of p) x) where
 
 -- ---- a request under two names of its number
 
-module _ {l : Lent} {slot at : ℕ} {m n : Number} {clock : Clock} {asked : Asked} {words : List ℕ} (same : m ≡ n) where
-  pub asks-numbered : EnterAsks l slot at (request_of n clock asked words) → EnterAsks l slot at (request_of m clock asked words)
-  asks-numbered = subst (λ (k : Number). EnterAsks l slot at (request_of k clock asked words)) (sym same)
+module _ {m n : Number} {clock : Clock} {asked : Asked} {words : List ℕ} (same : m ≡ n) where
+  pub asks-numbered : {p : State} {slot at : ℕ} → EnterAsks p slot at (request_of n clock asked words)
+      → EnterAsks p slot at (request_of m clock asked words)
+  asks-numbered {p} {slot} {at} = subst (λ (k : Number). EnterAsks p slot at (request_of k clock asked words)) (sym same)
 
-  pub kept-numbered : {l' : Lent} → EnterKept l slot at (request_of m clock asked words) l'
-      → EnterKept l slot at (request_of n clock asked words) l'
-  kept-numbered {l'} = subst (λ (k : Number). EnterKept l slot at (request_of k clock asked words) l') same
+  pub kept-numbered : {p q : Panel} → EnterKept p (request_of m clock asked words) q → EnterKept p (request_of n clock asked words) q
+  kept-numbered {p} {q} = subst (λ (k : Number). EnterKept p (request_of k clock asked words) q) same

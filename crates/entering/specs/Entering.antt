@@ -1,7 +1,5 @@
--- A request enters: what is asked before, what the state is then, and what that asks and promises over the parts of a panel that are lent.
+-- A request enters: what is asked before, what the state is then, and what that asks and promises in a panel.
 use Rattle.std.specs.Prelude.{ℕ, ◌+◌, ◌<◌, ◌≡◌, true, false, List, length}
-use Rattle.std.specs.Borrow.{MutBor}
-use denote.Triple.Both.{Both}
 use Rattle.numbers.specs.declared.Clock.{Clock}
 use Rattle.numbers.specs.declared.Number.{Number}
 use Rattle.numbers.specs.Numbers.{most_panels}
@@ -15,6 +13,8 @@ use Rattle.creek.specs.Book.{planned}
 use Rattle.counters.specs.Counted.{counted}
 use Rattle.creek.specs.internal.Sound.{Sound, most_requests}
 use Rattle.replica.specs.State.{State}
+use Rattle.replica.specs.declared.Panel.{Panel}
+use Rattle.replica.specs.Memory.{memory, SameSpare}
 use Rattle.replica.specs.internal.Model.{plan_of, book_of, model, Inv}
 
 -- ---- what enters, and what the state is then
@@ -42,60 +42,28 @@ pub record Entered (p : State) (x : Request) (awaiting : Context) (events : ℕ)
   }
   pub invariant : OwnSoFar p.own.0 (entered (plan_of p) x) awaiting events clock → Sound (model q) → Inv q
 
--- ---- over the parts of a panel
+-- ---- in a panel
 
--- what is lent to a call by which a request enters: the counts of the order and of the executed list, and the arrays
-pub record Lent : Type 0 where
-  pub ordered : ℕ
-  pub executed : ℕ
-  pub held : List ℕ
-  pub known : List ℕ
-  pub clocks : List ℕ
-  pub askings : List ℕ
-  pub contexts : List ℕ
-  pub order : List ℕ
-
--- what references to them refer to: where they are passed, at a function's entry, and at its exit
-abbrev pub lent_now : (ordered executed : MutBor ℕ) (held known clocks askings contexts order : MutBor (List ℕ)) → Lent
-lent_now ordered executed held known clocks askings contexts order = record {
-  ordered = ordered.now;
-  executed = executed.now;
-  held = held.now;
-  known = known.now;
-  clocks = clocks.now;
-  askings = askings.now;
-  contexts = contexts.now;
-  order = order.now;
-}
-
-abbrev pub lent_entry : (ordered executed : Both (MutBor ℕ) (MutBor ℕ)) (held known clocks askings contexts order : Both (MutBor (List ℕ)) (MutBor (List ℕ))) → Lent
-lent_entry ordered executed held known clocks askings contexts order =
-    lent_now ordered.entry executed.entry held.entry known.entry clocks.entry askings.entry contexts.entry order.entry
-
-abbrev pub lent_exit : (ordered executed : Both (MutBor ℕ) (MutBor ℕ)) (held known clocks askings contexts order : Both (MutBor (List ℕ)) (MutBor (List ℕ))) → Lent
-lent_exit ordered executed held known clocks askings contexts order =
-    lent_now ordered.exit executed.exit held.exit known.exit clocks.exit askings.exit contexts.exit order.exit
-
--- a panel with those parts, those who await a reply, and that last own event and clock reading
-abbrev pub entering : Lent → List ℕ → ℕ → Clock → State → State
-entering l awaiting events clock p = record {
+-- p with those who await a reply, and that last own event and clock reading
+abbrev pub owning : List ℕ → ℕ → Clock → State → State
+owning awaiting events clock p = record {
   panels = p.panels;
   own = p.own;
   events = events;
   clock = clock;
   committed = p.committed;
-  ordered = l.ordered;
-  executed = l.executed;
+  ordered = p.ordered;
+  executed = p.executed;
   stacked = p.stacked;
   commits = p.commits;
   counters = p.counters;
-  held = set_of l.held;
-  known = set_of l.known;
+  held = p.held;
+  known = p.known;
   awaiting = set_of awaiting;
-  clocks = l.clocks;
-  askings = l.askings;
-  contexts = l.contexts;
-  order = l.order;
+  clocks = p.clocks;
+  askings = p.askings;
+  contexts = p.contexts;
+  order = p.order;
   stack = p.stack;
   registers = p.registers;
   saved = p.saved;
@@ -103,22 +71,18 @@ entering l awaiting events clock p = record {
   settled = p.settled;
 }
 
--- a panel with those parts
-abbrev pub hearing : Lent → State → State
-hearing l p = entering l p.awaiting.words p.events p.clock p
-
--- x, of that slot and place, may enter a panel with these parts that came from fresh and the calls
-pub record EnterAsks (l : Lent) (slot at : ℕ) (x : Request) : Type 0 where
-  pub panel : State
-  pub invariant : Inv (hearing l panel)
-  pub enters : Enters (hearing l panel) x
+-- x, of that slot and place, may enter p, which came from fresh and the calls
+pub record EnterAsks (p : State) (slot at : ℕ) (x : Request) : Type 0 where
+  pub invariant : Inv p
+  pub enters : Enters p x
   pub its_slot : slot ≡ slot_of x.number
-  pub its_place : at ≡ place_for l.clocks l.order panel.committed l.ordered x.clock.0 slot
+  pub its_place : at ≡ place_for p.clocks p.order p.committed p.ordered x.clock.0 slot
   pub words : length x.context.words ≡ most_panels
 
--- of every such panel: x entered
-pub record EnterKept (l : Lent) (slot at : ℕ) (x : Request) (l' : Lent) : Type 0 where
-  pub kept : (p : State) → Inv (hearing l p) → Enters (hearing l p) x
-      → at ≡ place_for l.clocks l.order p.committed l.ordered x.clock.0 slot
-      → (awaiting : List ℕ) (events : ℕ) (clock : Clock)
-      → Entered (hearing l p) x (set_of awaiting) events clock (entering l' awaiting events clock p)
+-- x entered p, which became q; of the own requests q keeps what p kept, or what is put there afterwards
+pub record EnterKept (p : Panel) (x : Request) (q : Panel) : Type 0 where
+  pub heard : Entered (memory p) x (memory p).awaiting (memory p).events (memory p).clock (memory q)
+  pub made : (awaiting : List ℕ) (events : ℕ) (clock : Clock)
+      → Entered (memory p) x (set_of awaiting) events clock (owning awaiting events clock (memory q))
+  pub awaiting : q.awaiting ≡ p.awaiting
+  pub spare : SameSpare p q
