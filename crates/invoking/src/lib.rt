@@ -1,97 +1,83 @@
 // The call by which a request is made, invoke.
-//
-// It is given the numbers of a panel that it reads, and lent the counts that it changes and the arrays that it uses.
 #![tactic(auto)]
 
 ghost use Rattle.std.specs.Prelude.{◌≡◌};
 ghost use Rattle.std.proofs.Math.Seq.{slice};
 ghost use Rattle.sets.specs.Sets.{set_of};
+ghost use Rattle.request.specs.Refusal.{outcome_number};
 ghost use Rattle.ordering.specs.Slots.{Part};
 ghost use Rattle.creek.specs.Plan.{at_least};
-ghost use Rattle.creek.specs.Replies.{spread as spread_answer};
-ghost use Rattle.invoking.specs.Invoking.{InvokeRefused, context_without, request_for, own_now, own_entry, own_exit};
-ghost use Rattle.entering.specs.Entering.{lent_now, lent_entry, lent_exit};
-ghost use Rattle.invoking.specs.Invoking.{InvokeAsks, InvokeKept};
+ghost use Rattle.creek.specs.Book.{invoke as invoke_call};
+ghost use Rattle.replica.specs.Memory.{memory, Done};
+ghost use Rattle.replica.specs.internal.Model.{Inv};
+ghost use Rattle.invoking.specs.Invoking.{InvokeRefused, context_without, request_for, made_answer};
 
 use creek::mark::NOBODY;
 use creek::{Answer, Invocation};
-use numbers::{Clock, EventNo, Number, PanelNo};
-use request::{Request, asks, refusal};
+use numbers::{Clock, EventNo, Number};
+use replica::Panel;
+use request::refusal::{self, Refusal};
+use request::{Request, asks};
 use sets::Context;
 
 // A request is made: it enters as one that is heard does, awaits a reply, and is to be spread to the other panels. One made with a lower
 // clock takes the reading of the last own request.
-pub fn invoke(
-    own: PanelNo,
-    committed: usize,
-    ordered: &mut usize,
-    executed: &mut usize,
-    clock: &mut u32,
-    events: &mut u8,
-    held: &mut [u64; 8],
-    known: &mut [u64; 8],
-    awaiting: &mut [u64; 8],
-    clocks: &mut [u32; 512],
-    askings: &mut [u64; 512],
-    contexts: &mut [u64; 4096],
-    order: &mut [u16; 512],
-    i: Invocation,
-) -> Answer
-    requires { InvokeAsks own committed (own_now awaiting events clock)
-        (lent_now ordered executed held known clocks askings contexts order) }
-    ensures { InvokeKept own committed
-        (own_entry awaiting events clock) (lent_entry ordered executed held known clocks askings contexts order) i
-        (own_exit awaiting events clock) (lent_exit ordered executed held known clocks askings contexts order) result }
+pub fn invoke(p: &mut Panel, i: Invocation) -> Result<Request, Refusal>
+    requires { Inv (memory p.old) }
+    ensures { Done p.old (invoke_call i) (made_answer result) p.new }
 {
-    let made = *events;
-    let refusal = invoke_refusal(made, i);
-    if refusal != refusal::ACCEPTED {
-        return replica::refused(refusal);
-    }
-    let last = *clock;
-    let raised = at_least(Clock(last), i);
-    let event = made + 1;
+    invoke_refusal(p.events, i)?;
+    let raised = at_least(Clock(p.clock), i);
+    let event = p.events + 1;
     let number = Number {
-        panel: own,
+        panel: p.own,
         event: EventNo(event),
     };
     let slot = numbers::slot_of(number);
-    let n = *ordered;
-    let at = ordering::place(clocks, order, committed, n, raised.clock.0, slot);
-    // The later ones of the tentative requests are those from there on.
-    let context = context_for(raised.asked.strong, known, order, at, n);
-    entering::enter(
-        ordered,
-        executed,
-        held,
-        known,
-        clocks,
-        askings,
-        contexts,
-        order,
+    let at = ordering::place(
+        &p.clocks,
+        &p.order,
+        p.committed,
+        p.ordered,
+        raised.clock.0,
         slot,
-        at,
-        raised.clock,
-        raised.asked,
-        &context.words,
     );
-    members::join_at(awaiting, slot);
-    *events = event;
-    *clock = raised.clock.0;
-    spread(request_for(number, raised, context))
+    // The later ones of the tentative requests are those from there on.
+    let context = context_for(raised.asked.strong, &p.known, &p.order, at, p.ordered);
+    entering::enter(p, slot, at, raised.clock, raised.asked, &context.words);
+    members::join_at(&mut p.awaiting, slot);
+    p.events = event;
+    p.clock = raised.clock.0;
+    Ok(request_for(number, raised, context))
+}
+
+// The answer of a call that made a request, which is to be spread, or was refused.
+pub fn made_answer(outcome: Result<Request, Refusal>) -> Answer
+    ensures { result ≡ made_answer outcome }
+{
+    match outcome {
+        Ok(x) => Answer {
+            request: x,
+            response: 0,
+            number: numbers::none(),
+            refusal: refusal::ACCEPTED,
+            mark: NOBODY,
+        },
+        Err(w) => Answer::from(replica::told(Err(w))),
+    }
 }
 
 // The refusals of an invocation after an own request of that event: bad operation, shift full.
-fn invoke_refusal(events: u8, i: Invocation) -> u8
-    ensures { InvokeRefused events i result }
+fn invoke_refusal(events: u8, i: Invocation) -> Result<(), Refusal>
+    ensures { InvokeRefused events i (outcome_number result) }
 {
     if asks::bad(i.asked) {
-        return refusal::BAD_OPERATION;
+        return Err(Refusal::BadOperation);
     }
     if numbers::MOST_EVENTS <= events {
-        return refusal::SHIFT_FULL;
+        return Err(Refusal::ShiftFull);
     }
-    refusal::ACCEPTED
+    Ok(())
 }
 
 // i with its clock reading or, where that is lower, with the last one.
@@ -106,10 +92,10 @@ fn at_least(last: Clock, i: Invocation) -> Invocation
 }
 
 // The context of a request of that strength: where it is strong, the known set without the requests at the places from..to of the order.
-fn context_for<'a>(
+fn context_for(
     strong: bool,
-    known: &'a [u64; 8],
-    order: &'a [u16; 512],
+    known: &[u64; 8],
+    order: &[u16; 512],
     from: usize,
     to: usize,
 ) -> Context
@@ -135,18 +121,5 @@ fn request_for(number: Number, i: Invocation, context: Context) -> Request
         asked,
         clock,
         number,
-    }
-}
-
-// The answer that x is to be spread.
-fn spread(x: Request) -> Answer
-    ensures { result ≡ spread_answer x }
-{
-    Answer {
-        request: x,
-        response: 0,
-        number: numbers::none(),
-        refusal: refusal::ACCEPTED,
-        mark: NOBODY,
     }
 }
