@@ -365,8 +365,8 @@ module _ (p : State) (x : Request) (inv : Inv p) (new : Enters p x) where
       pub entered_by : {clocks askings contexts held known : List ℕ} {k : ℕ}
           → Stored p.clocks p.askings p.contexts s (request_of (number_of s) x.clock x.asked x.context.words)
           clocks askings contexts
-          → set_of held ≡ join p.held x.number
-          → set_of known ≡ known_with p.known x.asked.strong x.number
+          → set_of held ≡ join p.held (number_of s)
+          → set_of known ≡ known_with p.known x.asked.strong (number_of s)
           → k ≡ min p.executed at
           → (awaiting : List ℕ) (events : ℕ) (clock : Clock)
           → Entered p x (set_of awaiting) events clock (enlarged p held known awaiting clocks askings contexts order k events clock)
@@ -378,4 +378,5 @@ module _ (p : State) (x : Request) (inv : Inv p) (new : Enters p x) where
           (subst (λ (n : Number). Stored p.clocks p.askings p.contexts s (request_of n x.clock x.asked x.context.words)
           clocks askings contexts) its-number stored)) order
           (subst (λ (t : ℕ). Inserted p.order p.ordered (place_of p x) t order) slot_of
-          (subst (λ (k : ℕ). Inserted p.order p.ordered k s order) place_is inserted)) _ _ awaiting joined knows events clock)
+          (subst (λ (k : ℕ). Inserted p.order p.ordered k s order) place_is inserted)) _ _ awaiting (joined ∙ ap (join p.held) its-number)
+          (knows ∙ ap (known_with p.known x.asked.strong) its-number) events clock)

@@ -1,4 +1,4 @@
--- What may enter the plan may enter the state; and what enters by its slot enters under its number.
+-- What may enter the plan may enter the state.
 use Prim.Native.Nat.{ℕ}
 use native.Mathlib.Omega.{arith}
 use mathlib.Core.Path.{◌≡◌, sym, ap, subst, ◌∙◌}
@@ -49,13 +49,3 @@ module _ (p : State) (x : Request) (inv : Inv p) (new : New (plan_of p) x) where
           ap length (order-planned p) ∙ length-order p inv,
         );
   }
-
--- ---- a request under two names of its number
-
-module _ {m n : Number} {clock : Clock} {asked : Asked} {words : List ℕ} (same : m ≡ n) where
-  pub asks-numbered : {p : State} {slot at : ℕ} → EnterAsks p slot at (request_of n clock asked words)
-      → EnterAsks p slot at (request_of m clock asked words)
-  asks-numbered {p} {slot} {at} = subst (λ (k : Number). EnterAsks p slot at (request_of k clock asked words)) (sym same)
-
-  pub kept-numbered : {p q : Panel} → EnterKept p (request_of m clock asked words) q → EnterKept p (request_of n clock asked words) q
-  kept-numbered {p} {q} = subst (λ (k : Number). EnterKept p (request_of k clock asked words) q) same

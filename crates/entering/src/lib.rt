@@ -1,36 +1,32 @@
 // A request enters a panel, whether it was made there or heard: what invoke and deliver have in common.
-//
-// The request comes by its slot and place, its clock reading, what it asks for, and the lent words of its context.
 #![tactic(auto)]
 
 ghost use Rattle.std.specs.Prelude.{◌≡◌};
 ghost use Rattle.numbers.specs.internal.Slots.{number_of};
 ghost use Rattle.sets.specs.Sets.{set_of};
-ghost use Rattle.store.specs.Requests.{request_of};
 ghost use Rattle.creek.specs.Plan.{known_with};
 ghost use Rattle.replica.specs.Memory.{memory};
 ghost use Rattle.entering.specs.Entering.{EnterAsks, EnterKept};
 
-use numbers::Clock;
 use replica::Panel;
-use request::Asked;
+use request::Request;
 
-// The request of that slot and place of the order enters, and what is executed behind that place is to be rolled back.
-pub fn enter(p: &mut Panel, slot: u16, at: usize, clock: Clock, asked: Asked, words: &[u64; 8])
-    requires { EnterAsks (memory p.old) slot at (request_of (number_of slot) clock asked words.now) }
-    ensures { EnterKept p.old (request_of (number_of slot) clock asked words.now) p.new }
+// The request x, of that slot and place of the order, enters, and what is executed behind that place is to be rolled back.
+pub fn enter(p: &mut Panel, slot: u16, at: usize, x: &Request)
+    requires { EnterAsks (memory p.old) slot at x.now }
+    ensures { EnterKept p.old x.now p.new }
 {
     ordering::insert_at(&mut p.order, p.ordered, at, slot);
     members::join_at(&mut p.held, slot);
-    know(&mut p.known, asked.strong, slot);
+    know(&mut p.known, x.asked.strong, slot);
     store::put_request(
         &mut p.clocks,
         &mut p.askings,
         &mut p.contexts,
         slot,
-        clock,
-        asked,
-        words,
+        x.clock,
+        x.asked,
+        &x.context.words,
     );
     p.ordered += 1;
     // What is executed agrees with the order up to the place of the request, which is not executed.

@@ -44,11 +44,12 @@ pub fn invoke(p: &mut Panel, i: Invocation) -> Result<Request, Refusal>
     );
     // The later ones of the tentative requests are those from there on.
     let context = context_for(raised.asked.strong, &p.known, &p.order, at, p.ordered);
-    entering::enter(p, slot, at, raised.clock, raised.asked, &context.words);
+    let x = request_for(number, raised, context);
+    entering::enter(p, slot, at, &x);
     members::join_at(&mut p.awaiting, slot);
     p.events = event;
     p.clock = raised.clock.0;
-    Ok(request_for(number, raised, context))
+    Ok(x)
 }
 
 // The answer of a call that made a request, which is to be spread, or was refused.

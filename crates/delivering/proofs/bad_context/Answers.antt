@@ -28,12 +28,12 @@ weak_bad p s n = go (all_zero s.words) refl
     go false e = refl
     go true e = rw (empty_no_member s n e, zeros_behind p s.words e)
 
-pub returns-then-not-asked : goal.returns-then-not-asked
+pub returns-then-not-x : goal.returns-then-not-x
 unfolding bad_context
-returns-then-not-asked c =
-    rw c.if-not-asked.true
-    (c.names_from.ensures ∙ weak_bad c.args.panels (set_of c.args.words.now) c.args.number)
+returns-then-not-x c =
+    rw c.if-not-x.true
+    (c.names_from.ensures ∙ weak_bad c.args.panels (c.args.x.now.context) c.args.x.now.number)
 
 pub returns : goal.returns
 unfolding bad_context
-returns c = rw (c.if-not-asked.false, c.member-itself.ensures, c.names_from-outside.ensures)
+returns c = rw (c.if-not-x.false, c.member-itself.ensures, c.names_from-outside.ensures)

@@ -1,7 +1,5 @@
 -- `entering::enter` meets its contract.
 use mathlib.Core.Path.{refl}
-use Rattle.numbers.specs.internal.Slots.{number_of}
-use Rattle.store.specs.Requests.{request_of}
 use Rattle.replica.specs.Memory.{memory}
 use Rattle.entering.proofs.EnteringLaws.{slot_is, insertion_asks, entered_by}
 use Rattle.entering.proofs.enter.Goals as goal
@@ -18,7 +16,7 @@ pub returns : goal.returns
 returns c =
     let asks = c.requires in
     let entered =
-    entered_by (memory c.args.p.now) (request_of (number_of c.args.slot) c.args.clock c.args.asked c.args.words.now) asks.invariant asks.enters
+    entered_by (memory c.args.p.now) c.args.x.now asks.invariant asks.enters
     c.args.slot c.args.at asks.its_slot asks.its_place c.insert_at.new.xs c.insert_at.ensures c.put_request.ensures c.join_at.ensures
     c.know.ensures c.min-p.ensures in
     record {

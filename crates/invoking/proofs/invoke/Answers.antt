@@ -12,11 +12,9 @@ use Rattle.numbers.proofs.NumberLaws.{number_of_slot}
 use Rattle.sets.specs.Sets.{set_of, join}
 use Rattle.request.specs.declared.Request.{Request}
 use Rattle.request.proofs.RefusalLaws.{refuses}
-use Rattle.creek.specs.Replies.{spread}
 use Rattle.replica.specs.State.{State}
 use Rattle.replica.specs.Memory.{memory}
 use Rattle.entering.specs.Entering.{Enters}
-use Rattle.entering.proofs.EnteringStates.{asks-numbered, kept-numbered}
 use Rattle.invoking.proofs.InvokingLaws.{as_request, kept_asked, events_left, next_place_asks, behind-next, asked_enters, kept-made}
 use Rattle.invoking.proofs.invoke.Goals as goal
 use Rattle.invoking.proofs.invoke.Goals.{After-context_for-context}
@@ -69,7 +67,7 @@ context_for-context-requires c =
 pub enter-requires : goal.enter-requires
 enter-requires c =
     let context = (goal.at.enter-requires c).After-context_for-context in
-    asks-numbered (number_is context) (record {
+    rw c.request_for-x.ensures (record {
       invariant = c.requires;
       enters = enters context;
       its_slot = c.slot_of-slot.ensures;
@@ -80,14 +78,13 @@ enter-requires c =
 pub returns : goal.returns
 returns c =
     let context = (goal.at.returns c).After-context_for-context in
-    let entered = kept-numbered (number_is context) c.enter.ensures in
     record {
       kept =
           kept-made (before context) c.args.i c.requires _ c.in_ok-invoke_refusal.ensures refl _ c.at_least-raised.ensures _
-          c.slot_of-slot.ensures _ c.place-at.ensures _ c.context_for-context.ensures (made context) refl _ _
+          c.slot_of-slot.ensures _ c.place-at.ensures _ c.context_for-context.ensures c.request_for-x.result c.request_for-x.ensures _ _
           (c.join_at.ensures
-          ∙ ap (λ (words : List ℕ). join (set_of words) (number_of c.slot_of-slot.result)) entered.awaiting
+          ∙ ap (λ (words : List ℕ). join (set_of words) (number_of c.slot_of-slot.result)) c.enter.ensures.awaiting
           ∙ ap (join (set_of c.args.p.now.awaiting)) (number_is context))
-          (entered.made _ _ _) _ (ap (λ (x : Request). spread x) c.request_for.ensures);
-      spare = entered.spare;
+          (c.enter.ensures.made _ _ _) _ refl;
+      spare = c.enter.ensures.spare;
     }
