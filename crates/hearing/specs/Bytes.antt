@@ -1,6 +1,5 @@
 -- The context of a request whose message stands at a place of a run of bytes.
-use Rattle.std.specs.Prelude.{ℕ, ◌+◌, Bool, cond, ◌≡◌, List, length}
-use Rattle.numbers.specs.Numbers.{most_panels}
+use Rattle.std.specs.Prelude.{ℕ, ◌+◌, Bool, cond, List}
 use Rattle.sets.specs.declared.Context.{Context}
 use Rattle.sets.specs.Sets.{set_of, empty_set}
 use Rattle.fields.specs.Widths.{weak_widths, context_widths, size, decode}
@@ -11,8 +10,3 @@ context_in strong s at = cond strong (set_of (decode context_widths s (at + size
 
 abbrev pub context_size : Bool → ℕ
 context_size strong = cond strong (size context_widths) 0
-
--- those are the words of that context
-pub record ContextPut (strong : Bool) (s : List ℕ) (at : ℕ) (words : List ℕ) : Type 0 where
-  pub context : set_of words ≡ context_in strong s at
-  pub long : length words ≡ most_panels

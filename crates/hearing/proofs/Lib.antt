@@ -1,2 +1,0 @@
--- Laws of a request that is heard from bytes.
-mod HearingLaws
