@@ -4,6 +4,7 @@ use mathlib.Core.Path.{◌≡◌, refl}
 use mathlib.Core.Bool.{true, false}
 use mathlib.Core.List.{List, [], ◌∷◌, ◌++◌, map}
 use lib.ListN.{replicate}
+use Rattle.std.specs.Prelude.{Ok, Err}
 use Rattle.numbers.specs.Numbers.{numbered}
 use Rattle.request.specs.Operations.{code_set, code_claim}
 use Rattle.request.specs.Refusal as refusal
@@ -11,7 +12,8 @@ use Rattle.sets.specs.Sets.{empty_set, set_of, all_zero, is_empty}
 use Rattle.wire.specs.Integers.{integer_at, integer_bytes}
 use Rattle.wire.specs.Layout.{kinds, kind_with, layout, widths_with, least_size, most_size}
 use Rattle.fields.specs.Widths.{decode, encode}
-use Rattle.wire.specs.Message.{BusMessage, request, settlement, kind_of, front_of, run_of, behind_of, contents}
+use Rattle.wire.specs.declared.Message.TheVariants.{Request as request, Settlement as settlement}
+use Rattle.wire.specs.Message.{BusMessage, kind_of, front_of, run_of, behind_of, contents}
 use Rattle.wire.specs.Message.{widths_of, size_of, fields_of, bytes_of, message_from, weak_with_context}
 use Rattle.wire.specs.Reader.{message, end, refused, length_at, kind_at, run_at, fields_at, spare_set, refusal_as, read_as, read_at}
 use Rattle.wire.specs.Writer.{write_refusal, write_answer}
@@ -106,12 +108,8 @@ weak_naming =
       context = set_of (0 ∷ 1 ∷ replicate 6 0);
     })
 
--- refusal and bytes written
-abbrev told : BusMessage → ℕ → List ℕ
-told m room = (write_answer m room).refusal ∷ (write_answer m room).bytes ∷ []
-
-answered : told weak_naming 17 ∷ told weak_naming 18 ∷ told weak 17 ∷ told weak 18 ∷ told strong 81 ∷ told settled 6 ∷ []
-    ≡ (refusal.bad_context ∷ 0 ∷ []) ∷ (refusal.bad_context ∷ 0 ∷ []) ∷ (refusal.no_room ∷ 0 ∷ []) ∷ (refusal.accepted ∷ 18 ∷ [])
-    ∷ (refusal.no_room ∷ 0 ∷ []) ∷ (refusal.accepted ∷ 6 ∷ []) ∷ []
+answered : write_answer weak_naming 17 ∷ write_answer weak_naming 18 ∷ write_answer weak 17 ∷ write_answer weak 18 ∷ write_answer strong 81
+    ∷ write_answer settled 6 ∷ []
+    ≡ Err refusal.bad_context ∷ Err refusal.bad_context ∷ Err refusal.no_room ∷ Ok 18 ∷ Err refusal.no_room ∷ Ok 6 ∷ []
 unfolding write_answer write_refusal weak_with_context all_zero is_empty kind_of run_of size_of widths_of widths_with layout
 answered = refl

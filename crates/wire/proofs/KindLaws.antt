@@ -4,7 +4,7 @@ use Prim.Native.Nat.{ℕ, zero, suc, ◌^◌, ◌≤◌, ◌<◌}
 use mathlib.Core.Path.{◌≡◌, refl, sym, ap, ◌∙◌, subst}
 use mathlib.Core.Bool.{Bool, true, false, not, ◌&&◌, cond}
 use mathlib.Core.List.{List, [], ◌∷◌, ◌++◌}
-use mathlib.Core.Option.{some}
+use Rattle.std.specs.Prelude.{Some}
 use native.Mathlib.Omega.{arith}
 use lib.Dec.{lit<, lit≤, eqb}
 use lib.ListN.{get_or, length, drop, replicate}
@@ -25,7 +25,8 @@ use Rattle.wire.specs.declared.Kind.TheVariants.{Weak, Strong, Settlement}
 use Rattle.wire.specs.Layout.{kind_number, layout, kind_with, widths_with}
 use Rattle.fields.specs.Widths.{decode, head_fields, context_field}
 use Rattle.wire.specs.Layout.{least_size, most_size, least_message, longest_message}
-use Rattle.wire.specs.Message.{BusMessage, request, settlement, kind_of, front_of, run_of, behind_of}
+use Rattle.wire.specs.declared.Message.TheVariants.{Request as request, Settlement as settlement}
+use Rattle.wire.specs.Message.{BusMessage, kind_of, front_of, run_of, behind_of}
 use Rattle.fields.specs.Contents.{spare_byte, number_fields, body_fields}
 use Rattle.wire.specs.Message.{contents, widths_of, size_of, fields_of, message_from}
 use Rattle.fields.specs.Contents.{number_from, request_from}
@@ -39,7 +40,7 @@ ContentsOf k f = contents (message_from k f) ≡ drop head_fields f
 
 pub record KindLaws (k : Kind) : Type 0 where
   -- its number tells it, and is one of two bytes
-  pub known : kind_with (kind_number k) ≡ some k
+  pub known : kind_with (kind_number k) ≡ Some k
   pub small : kind_number k < 2 ^ 16
   -- its messages are not shorter than the shortest and not longer than the longest
   pub least : least_message ≤ least_size k

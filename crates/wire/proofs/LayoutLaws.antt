@@ -1,19 +1,18 @@
 -- What follows from the layout for any kind: its sizes, and the kind that a number tells.
 use Prim.Native.Nat.{ℕ, ◌+◌, ◌≤◌}
-use mathlib.Core.Path.{◌≡◌, refl, ap}
-use mathlib.Core.Bool.{Bool}
+use mathlib.Core.Path.{◌≡◌, refl, ap, ◌∙◌}
+use mathlib.Core.Bool.{Bool, true, false, cond}
 use mathlib.Core.List.{◌++◌}
-use mathlib.Core.Option.{Option, none, some}
+use Rattle.std.specs.Prelude.{Some, None}
 use native.Mathlib.Omega.{arith}
 use lib.Dec.{eqb}
 use lib.ListN.{replicate}
 use borrow.Author.Tests.{eqb-true, ne_eqb}
-use Rattle.lists.proofs.ListLaws.{count_never, none-find, found_passes}
 use Rattle.fields.proofs.WidthLaws.{size-append, size_bytes}
 use Rattle.wire.specs.declared.Kind.{Kind}
-use Rattle.wire.specs.declared.KindTold.TheVariants.{Known, Unknown}
+use Rattle.wire.specs.declared.Kind.TheVariants.{Weak, Strong, Settlement}
 use Rattle.fields.specs.Widths.{byte_width, head_size, size}
-use Rattle.wire.specs.Layout.{kinds, kind_number, layout, kind_with, told, widths_with, least_size}
+use Rattle.wire.specs.Layout.{kind_number, layout, kind_with, widths_with, least_size}
 
 -- ---- sizes
 
@@ -38,25 +37,17 @@ head_least k = omega arith
 
 -- ---- the kind that a number tells
 
-pub known-number : (n : ℕ) (k : Kind) → kind_with n ≡ some k → n ≡ kind_number k
+pub known-number : (n : ℕ) (k : Kind) → kind_with n ≡ Some k → n ≡ kind_number k
 unfolding kind_with
-known-number n k e = eqb-true n (kind_number k) (found_passes (λ k. eqb n (kind_number k)) k kinds e)
+known-number n k e = by (eqb n 1) (eqb n 2) (eqb n 3) refl refl refl e
+  where
+    by : (a b c : Bool) → eqb n 1 ≡ a → eqb n 2 ≡ b → eqb n 3 ≡ c
+        → cond a (Some Weak) (cond b (Some Strong) (cond c (Some Settlement) None)) ≡ Some k → n ≡ kind_number k
+    by true b c p q r e = let is : Weak ≡ k = cc in eqb-true n 1 p ∙ ap kind_number is
+    by false true c p q r e = let is : Strong ≡ k = cc in eqb-true n 2 q ∙ ap kind_number is
+    by false false true p q r e = let is : Settlement ≡ k = cc in eqb-true n 3 r ∙ ap kind_number is
+    by false false false p q r e = cc
 
--- the code's form says the same
-pub told_known : (o : Option Kind) (k : Kind) → told o ≡ Known k → o ≡ some k
-told_known none k e =
-    let no : ◌≡◌ {A = ℕ} 0 1 = cc in
-    absurd (omega arith)
-told_known (some j) k e = ap some (cc e)
-
-pub told-unknown : (o : Option Kind) → told o ≡ Unknown → o ≡ none
-told-unknown none e = refl
-told-unknown (some j) e =
-    let no : ◌≡◌ {A = ℕ} 0 1 = cc in
-    absurd (omega arith)
-
-pub unknown-number : (n : ℕ) → ((k : Kind) → n ≡ kind_number k → ⊥) → kind_with n ≡ none
+pub unknown-number : (n : ℕ) → ((k : Kind) → n ≡ kind_number k → ⊥) → kind_with n ≡ None
 unfolding kind_with
-unknown-number n h =
-    let test : Kind → Bool = λ k. eqb n (kind_number k) in
-    none-find test kinds (count_never test (λ k. ne_eqb n (kind_number k) (h k)) kinds)
+unknown-number n h = simp (ne_eqb n 1 (h Weak), ne_eqb n 2 (h Strong), ne_eqb n 3 (h Settlement))

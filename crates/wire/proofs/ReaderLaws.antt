@@ -3,24 +3,55 @@ use Prim.Native.Nat.{ℕ, ◌+◌, ◌-◌, ◌≤◌, ◌<◌}
 use mathlib.Core.Path.{◌≡◌, refl, sym, ap, ◌∙◌}
 use mathlib.Core.Bool.{Bool, true, false, not, cond}
 use mathlib.Core.List.{List, [], ◌∷◌}
-use mathlib.Core.Option.{Option, none, some}
+use Rattle.std.specs.Prelude.{Option, Some, None}
 use native.Mathlib.Omega.{arith}
 use native.Mathlib.Decide.{dec_lt}
 use lib.Dec.{leb, eqb}
 use lib.ListN.{length, get_or}
 use borrow.Author.Tests.{le-leb, lt-leb, lt-ltb, le-ltb, eq-eqb, ne_eqb, ltb-false}
 use Rattle.lists.specs.Lists.{one, some_passes}
+use Rattle.request.specs.declared.refusal.Refusal.{Refusal}
+use Rattle.request.specs.declared.refusal.Refusal.TheVariants as Word
 use Rattle.request.specs.Refusal as refusal
+use Rattle.request.specs.Refusal.{number_of}
 use Rattle.wire.specs.declared.Kind.{Kind}
 use Rattle.wire.specs.Layout.{kind_number, kind_with, layout, least_size, most_size}
 use Rattle.fields.specs.Widths.{head_size}
 use Rattle.wire.specs.Message.{BusMessage, message_from}
 use Rattle.fields.specs.Contents.{spare_byte}
-use Rattle.wire.specs.Reader.{message, end, refused, length_at, kind_at, fields_at, spare_set}
+use Rattle.wire.specs.Reader.{Outcome, message, end, refused, taken_of, length_at, kind_at, fields_at, spare_set}
 use Rattle.wire.specs.internal.LaidOut.{LaidOut}
 use Rattle.wire.specs.Reader.{refusal_as, read_as, read_with, read_at}
 use Rattle.wire.proofs.LayoutLaws.{head_least}
 use Rattle.wire.proofs.KindLaws.{kind_laws}
+
+-- ---- refusals
+
+-- no refusal's number is that of none
+pub is_refusal : (w : Refusal) → number_of w ≡ refusal.accepted → ⊥
+is_refusal w e = omega (arith, e, above w)
+  where
+    above : (w : Refusal) → 1 ≤ number_of w
+    above Word.BadShop = omega arith
+    above Word.BadNumber = omega arith
+    above Word.BadOperation = omega arith
+    above Word.OwnEcho = omega arith
+    above Word.ShiftFull = omega arith
+    above Word.HeldAlready = omega arith
+    above Word.NumberClash = omega arith
+    above Word.NotHere = omega arith
+    above Word.Weak = omega arith
+    above Word.SettledAlready = omega arith
+    above Word.Waits = omega arith
+    above Word.NothingToUndo = omega arith
+    above Word.UndoFirst = omega arith
+    above Word.NothingToDo = omega arith
+    above Word.CutShort = omega arith
+    above Word.BadLength = omega arith
+    above Word.UnknownKind = omega arith
+    above Word.SpareSet = omega arith
+    above Word.NoRoom = omega arith
+    above Word.BadContext = omega arith
 
 -- ---- a message of a kind
 
@@ -101,7 +132,15 @@ module _ (s : List ℕ) (at : ℕ) where
     of_option o e = simp (lt-leb _ _ inside, le-ltb _ _ head, e)
 
     pub of_kind : (k : Kind) → kind_at s at ≡ kind_number k → read_at s at ≡ read_as k s at
-    of_kind k e = of_option (some k) (ap kind_with e ∙ (kind_laws k).known)
+    of_kind k e = of_option (Some k) (ap kind_with e ∙ (kind_laws k).known)
+
+-- ---- what takes no bytes
+
+pub end_takes_nothing : (o : Outcome) → o ≡ end → taken_of o ≡ 0
+end_takes_nothing o e = rw e
+
+pub refused-takes-nothing : (o : Outcome) (w : ℕ) → o ≡ refused w → taken_of o ≡ 0
+refused-takes-nothing o w e = rw e
 
 -- ---- where bytes are left
 
@@ -112,8 +151,8 @@ told_of_kind false m n w e = let no : ◌≡◌ {A = ℕ} 0 1 = cc in omega arit
 module _ (s : List ℕ) (at : ℕ) where
   told_of_number : (o : Option Kind) → read_with o s at ≡ end → ⊥
   unfolding read_as
-  told_of_number none e = let no : ◌≡◌ {A = ℕ} 0 1 = cc in omega arith
-  told_of_number (some k) e = told_of_kind (eqb (refusal_as k s at) refusal.accepted) _ _ _ e
+  told_of_number None e = let no : ◌≡◌ {A = ℕ} 0 1 = cc in omega arith
+  told_of_number (Some k) e = told_of_kind (eqb (refusal_as k s at) refusal.accepted) _ _ _ e
 
   -- the end is not read
   pub not_at_end : at < length s → read_at s at ≡ end → ⊥

@@ -12,25 +12,25 @@ use Prim.Native.Nat.{ℕ, ◌+◌, ◌-◌, ◌≤◌, ◌<◌}
 use mathlib.Core.Path.{◌≡◌, refl, sym, ap, ◌∙◌}
 use mathlib.Core.Bool.{false}
 use mathlib.Core.List.{List, [], ◌∷◌, ◌++◌}
-use mathlib.Core.Option.{Option, none, some}
+use Rattle.std.specs.Prelude.{Option, Some, None}
 use native.Mathlib.Omega.{arith}
 use native.Mathlib.Decide.{dec_le, dec_lt, ℕ_discrete}
 use lib.ListN.{length, get_or, take, drop, length-append}
 use Rattle.request.specs.Refusal as refusal
 use borrow.Author.Tests.{eq-eqb}
-use Rattle.wire.specs.declared.Written.{Written}
 use Rattle.wire.specs.declared.Kind.{Kind}
 use Rattle.wire.specs.Layout.{kind_number, kind_with, widths_with, least_size, most_size, least_message, longest_message}
 use Rattle.fields.specs.Widths.{size, decode, encode, Within}
 use Rattle.fields.specs.Widths.{length_field, kind_field, head_fields, head_size}
-use Rattle.wire.specs.Message.{BusMessage, request, settlement, kind_of, number_in}
+use Rattle.wire.specs.declared.Message.TheVariants.{Request as request, Settlement as settlement}
+use Rattle.wire.specs.Message.{BusMessage, kind_of, number_in}
 use Rattle.wire.specs.Message.{front_of, run_of, contents, widths_of, size_of, fields_of, bytes_of, message_from}
 use Rattle.fields.specs.Contents.{number_from}
 use Rattle.wire.specs.Message.{weak_with_context, Fits}
-use Rattle.wire.specs.Reader.{Outcome, message, end, refused, answered}
+use Rattle.wire.specs.Reader.{Outcome, message, end, refused, taken_of}
 use Rattle.wire.specs.Reader.{length_at, kind_at, run_at, fields_at, spare_set, refusal_as, read_as, read_at}
 use Rattle.wire.specs.internal.LaidOut.{LaidOut}
-use Rattle.wire.specs.Writer.{write_refusal, write_answer, after_write}
+use Rattle.wire.specs.Writer.{write_refusal, after_write}
 use Rattle.fields.specs.Widths.{settlement_widths}
 use Rattle.fields.proofs.IntegerLaws.{Bytes}
 use Rattle.fields.proofs.WidthLaws.{fields_back, run_back, decode_within}
@@ -38,7 +38,7 @@ use Rattle.wire.proofs.LayoutLaws.{size_with, head_least, known-number}
 use Rattle.wire.proofs.KindLaws.{kind_laws, run_most, message_back, message_clear}
 use Rattle.wire.proofs.ReaderLaws.{laid_out, accepted_laid_out, laid_inside, refused_as, read_as_lem}
 use Rattle.wire.proofs.ReaderLaws.{at-end, head_cut, of_kind, of_option}
-use Rattle.wire.proofs.WriterLaws.{length_bytes, written, accepted_sendable}
+use Rattle.wire.proofs.WriterLaws.{length_bytes, written, sendable-accepted, accepted_sendable}
 
 -- ---- what is written reads back
 
@@ -141,9 +141,9 @@ module _ (s : List ℕ) (at : ℕ) (m : BusMessage) (n : ℕ) where
       ]
     where
       by : at < length s → head_size ≤ length s - at → (o : Option Kind) → kind_with (kind_at s at) ≡ o → Taken s at m n
-      by inside head none is = absurd (not-refused _ m n (sym (of_option s at inside head none is) ∙ e))
-      by inside head (some k) is =
-          taken_as k (known-number (kind_at s at) k is) (sym (of_option s at inside head (some k) is) ∙ e)
+      by inside head None is = absurd (not-refused _ m n (sym (of_option s at inside head None is) ∙ e))
+      by inside head (Some k) is =
+          taken_as k (known-number (kind_at s at) k is) (sym (of_option s at inside head (Some k) is) ∙ e)
 
 module _ (k : Kind) (s : List ℕ) (at : ℕ) where
   -- length and kind stand in front of the contents
@@ -273,22 +273,22 @@ module _ (s : List ℕ) (at : ℕ) (m : BusMessage) (n : ℕ) (read : read_at s 
   -- a message that was read is accepted by a writer with room for it, and written as the bytes that were taken
   pub read_writes : (out : List ℕ) → n ≤ length out
       → (write_refusal m (length out) ≡ refusal.accepted) × (after_write m out ≡ take n (drop at s) ++ drop n out)
-  unfolding write_answer
   read_writes out room =
       let is = taken-size s at m n read in
-      let w = written m out (read_sendable s at m n read) (omega arith) in (
-        ap (λ (r : Written). r.refusal) w.0,
-        w.1 ∙ ap (λ (z : ℕ). bytes_of m ++ drop z out) (sym is) ∙ ap (λ (l : List ℕ). l ++ drop n out) (write_back s at m n read bytes),
+      let sendable = read_sendable s at m n read in
+      let fits : size_of m ≤ length out = omega arith in (
+        sendable-accepted m (length out) sendable fits,
+        (written m out sendable fits).1
+            ∙ ap (λ (z : ℕ). bytes_of m ++ drop z out) (sym is) ∙ ap (λ (l : List ℕ). l ++ drop n out) (write_back s at m n read bytes),
       )
 
 -- ---- places
 
 -- no answer moves a place past the end
-pub place_inside : (s : List ℕ) (at : ℕ) → at ≤ length s → at + (answered (read_at s at)).taken ≤ length s
-unfolding answered
+pub place_inside : (s : List ℕ) (at : ℕ) → at ≤ length s → at + taken_of (read_at s at) ≤ length s
 place_inside s at inside = go (read_at s at) refl
   where
-    go : (o : Outcome) → read_at s at ≡ o → at + (answered o).taken ≤ length s
+    go : (o : Outcome) → read_at s at ≡ o → at + taken_of o ≤ length s
     go (message m n) e = taken_inside s at m n e
     go end e = omega arith
     go (refused w) e = omega arith

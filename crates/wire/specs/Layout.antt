@@ -1,13 +1,10 @@
 -- The layout of bus messages, document 01's table: for each kind its number and its fields in order. Sizes, reading and writing follow
 -- from it. The widths, and what follows for any widths, are those of `fields`.
-use Rattle.std.specs.Prelude.{ℕ, ◌+◌, List, [], ◌∷◌, ◌++◌, eqb, replicate}
-use Rattle.std.proofs.Math.Option.{Option, none, some}
-use Rattle.lists.specs.Lists.{find}
+use Rattle.std.specs.Prelude.{ℕ, ◌+◌, List, [], ◌∷◌, ◌++◌, eqb, replicate, Option}
+use Rattle.std.specs.List.{find}
 use Rattle.fields.specs.Widths.{settlement_widths, strong_widths}
 use Rattle.wire.specs.declared.Kind.{Kind}
 use Rattle.wire.specs.declared.Kind.TheVariants.{Weak, Strong, Settlement}
-use Rattle.wire.specs.declared.KindTold.{KindTold}
-use Rattle.wire.specs.declared.KindTold.TheVariants.{Known, Unknown}
 use Rattle.fields.specs.Widths.{head_widths, number_widths, body_widths, byte_width, context_widths, size}
 use Rattle.fields.specs.Widths.{spare_field}
 
@@ -44,11 +41,6 @@ layout Settlement = record { front = number_widths; most_run = 0; behind = []; s
 -- the kind of that number, where there is one
 unfoldable pub kind_with : ℕ → Option Kind
 kind_with n = find (λ k. eqb n (kind_number k)) kinds
-
--- the same as the code holds it
-abbrev pub told : Option Kind → KindTold
-told none = Unknown
-told (some k) = Known k
 
 -- the widths of all fields of a message of this kind whose run has n bytes
 unfoldable pub widths_with : Kind → ℕ → List ℕ

@@ -1,23 +1,18 @@
--- Bus messages, the fields they have, and the form in which the code holds them. The fields of a number and of a body are those of
--- `fields`.
+-- Bus messages and the fields they have. The fields of a number and of a body are those of `fields`.
 use Rattle.std.specs.Prelude.{ℕ, ◌≤◌, Bool, true, false, not, ◌&&◌, cond, List, [], ◌∷◌, ◌++◌, length, drop}
 use Rattle.numbers.specs.declared.Number.{Number}
-use Rattle.request.specs.declared.Request.{Request}
-use Rattle.request.specs.Request.{bare_request, no_request}
 use Rattle.sets.specs.Sets.{empty_set, set_of, is_empty, Words}
 use Rattle.wire.specs.declared.Message.{Message}
+use Rattle.wire.specs.declared.Message.TheVariants.{Request as request, Settlement as settlement}
 use Rattle.wire.specs.declared.Kind.{Kind}
 use Rattle.wire.specs.declared.Kind.TheVariants.{Weak, Strong, Settlement}
-use Rattle.wire.specs.declared.Subject.{Subject}
-use Rattle.wire.specs.declared.Subject.TheVariants.{Request as a_request, Settlement as a_settlement}
 use Rattle.wire.specs.Layout.{kind_number, layout, widths_with}
 use Rattle.fields.specs.Widths.{size, encode, Within, context_field}
 use Rattle.fields.specs.Contents.{number_fields, body_fields, number_from, request_from}
 
--- a bus message: a request, weak or strong, or the settlement of a number
-pub data BusMessage : Type 0 where
-  request : Request → BusMessage
-  settlement : Number → BusMessage
+-- a bus message: a request, weak or strong, or the settlement of a number, as the code holds it
+abbrev pub BusMessage : Type 0
+BusMessage = Message
 
 -- the kind of a message
 unfoldable pub kind_of : BusMessage → Kind
@@ -91,23 +86,3 @@ pub record Fits (m : BusMessage) : Type 0 where
   pub fields : Within (widths_of m) (fields_of m)
   pub run : length (run_of m) ≤ (layout (kind_of m)).most_run
   pub words : ContextWords m
-
--- ---- as the code holds them
-
--- what the code has for a message
-unfoldable pub as_message : BusMessage → Message
-as_message (request r) = record { subject = a_request; request = r }
-as_message (settlement n) = record { subject = a_settlement; request = bare_request n }
-
--- zeros, where there is no message
-unfoldable pub no_message : Message
-no_message = record { subject = a_request; request = no_request }
-
--- the message about that subject that names r
-abbrev pub about : Subject → Request → BusMessage
-about a_request r = request r
-about a_settlement r = settlement r.number
-
--- the message that the code has
-unfoldable pub said : Message → BusMessage
-said m = about m.subject m.request

@@ -1,22 +1,15 @@
 -- What the reader answers at a place of a run of bytes: a message, the end, or a refusal.
-use Rattle.std.specs.Prelude.{ℕ, ◌-◌, Bool, not, cond, List, get_or, length, ltb, leb, eqb}
-use Rattle.std.proofs.Math.Option.{Option, none, some}
+use Rattle.std.specs.Prelude.{ℕ, ◌-◌, Bool, not, cond, List, get_or, length, ltb, leb, eqb, Option, Some, None, Result, Ok, Err}
 use Rattle.lists.specs.Lists.{some_passes}
+use Rattle.request.specs.declared.refusal.Refusal.{Refusal}
 use Rattle.request.specs.Refusal as refusal
-use Rattle.wire.specs.declared.ReadAnswer.{ReadAnswer}
-use Rattle.wire.specs.declared.ReadAnswer.TheVariants.{Message as a_message, End, Refused}
+use Rattle.request.specs.Refusal.{number_of}
 use Rattle.wire.specs.declared.Reading.{Reading}
 use Rattle.wire.specs.declared.Kind.{Kind}
 use Rattle.wire.specs.Layout.{layout, kind_with, widths_with, least_size, most_size}
 use Rattle.fields.specs.Widths.{head_widths, head_size, decode, length_field, kind_field}
-use Rattle.wire.specs.Message.{BusMessage, message_from, as_message, no_message}
+use Rattle.wire.specs.Message.{BusMessage, message_from}
 use Rattle.fields.specs.Contents.{spare_byte}
-
--- document 01's number for each answer: a refusal's own, and 0 for the others
-abbrev pub refusal_of : ReadAnswer → ℕ
-refusal_of a_message = refusal.accepted
-refusal_of End = refusal.accepted
-refusal_of (Refused w) = w
 
 -- a message and the bytes taken; the end; or a refusal by its number
 pub data Outcome : Type 0 where
@@ -24,15 +17,28 @@ pub data Outcome : Type 0 where
   end : Outcome
   refused : ℕ → Outcome
 
--- an answer that takes nothing, with zeros elsewhere
-abbrev pub untaken : ReadAnswer → Reading
-untaken a = record { answer = a; message = no_message; taken = 0 }
+-- document 01's number for each outcome: a refusal's own, and 0 for the others
+abbrev pub refusal_of : Outcome → ℕ
+refusal_of (message m n) = refusal.accepted
+refusal_of end = refusal.accepted
+refusal_of (refused w) = w
 
--- the answer for each outcome
-unfoldable pub answered : Outcome → Reading
-answered (message m n) = record { answer = a_message; message = as_message m; taken = n }
-answered end = untaken End
-answered (refused w) = untaken (Refused w)
+-- the bytes taken, none where there is no message
+abbrev pub taken_of : Outcome → ℕ
+taken_of (message m n) = n
+taken_of end = 0
+taken_of (refused w) = 0
+
+-- the outcome that the code's answer says
+abbrev pub outcome_of : Result (Option Reading) Refusal → Outcome
+outcome_of (Ok (Some r)) = message r.message r.taken
+outcome_of (Ok None) = end
+outcome_of (Err w) = refused (number_of w)
+
+-- what the code answers, with document 01's number of its refusal
+abbrev pub by_number : {A : Type 0} → Result A Refusal → Result A ℕ
+by_number (Ok x) = Ok x
+by_number (Err w) = Err (number_of w)
 
 -- the length that stands at a place
 unfoldable pub length_at : List ℕ → ℕ → ℕ
@@ -70,8 +76,8 @@ read_as k s at =
 
 -- the same where a kind is known, and otherwise its refusal
 abbrev pub read_with : Option Kind → List ℕ → ℕ → Outcome
-read_with none s at = refused refusal.unknown_kind
-read_with (some k) s at = read_as k s at
+read_with None s at = refused refusal.unknown_kind
+read_with (Some k) s at = read_as k s at
 
 -- the outcome at a place: the end where no byte is left; one to three bytes are cut short; an unknown kind is refused before
 -- its length is judged

@@ -1,3 +1,2 @@
 -- What only functions within the crate and proofs cite.
 pub mod LaidOut
-pub mod PutAsks

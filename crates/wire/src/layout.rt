@@ -1,66 +1,54 @@
 // The numbers of the kinds and the sizes of their messages, as `layout` of `specs/` has them.
 ghost use Rattle.std.specs.Prelude.{◌≡◌};
-ghost use Rattle.wire.specs.Layout.{kind_number, kind_with, told, layout, least_size};
+ghost use Rattle.wire.specs.Layout.{kind_number, kind_with, layout, least_size};
 
-use super::{Kind, KindTold};
+use super::Kind;
 use fields::places;
-
-pub const WEAK: u8 = 1;
-
-pub const STRONG: u8 = 2;
-
-pub const SETTLEMENT: u8 = 3;
 
 // The bytes of the shortest message, a settlement, and of the longest one, a strong request.
 pub const LEAST_MESSAGE: usize = places::SETTLEMENT_SIZE;
 
 pub const LONGEST_MESSAGE: usize = places::STRONG_SIZE;
 
-// Document 01's number of a kind.
-pub fn kind_number(k: Kind) -> u8
-    ensures { result ≡ kind_number k }
-{
-    match k {
-        Kind::Weak => WEAK,
-        Kind::Strong => STRONG,
-        Kind::Settlement => SETTLEMENT,
+// Document 01's number of a kind, for which a message has two bytes.
+impl From<Kind> for u16 {
+    ghost from_gives = { λ k n. n ≡ kind_number k };
+
+    fn from(kind: Kind) -> u16 {
+        kind as u16
     }
 }
 
-// The kind of that number.
-pub fn kind_with(number: u64) -> KindTold
-    ensures { result ≡ told (kind_with number) }
-{
-    if number == WEAK as u64 {
-        return KindTold::Known(Kind::Weak);
+impl Kind {
+    // The kind of that number, where there is one.
+    pub fn with_number(number: u64) -> Option<Kind>
+        ensures { result ≡ kind_with number }
+    {
+        match number {
+            1 => Some(Kind::Weak),
+            2 => Some(Kind::Strong),
+            3 => Some(Kind::Settlement),
+            _ => None,
+        }
     }
-    if number == STRONG as u64 {
-        return KindTold::Known(Kind::Strong);
-    }
-    if number == SETTLEMENT as u64 {
-        return KindTold::Known(Kind::Settlement);
-    }
-    KindTold::Unknown
-}
 
-// The bytes of a message of a kind without a run.
-pub fn least_size(k: Kind) -> usize
-    ensures { result ≡ least_size k }
-{
-    match k {
-        Kind::Weak => places::WEAK_SIZE,
-        Kind::Strong => places::STRONG_SIZE,
-        Kind::Settlement => places::SETTLEMENT_SIZE,
+    // The bytes of a message of this kind without a run.
+    pub fn least_size(self) -> usize
+        ensures { result ≡ least_size self }
+    {
+        match self {
+            Kind::Weak => places::WEAK_SIZE,
+            Kind::Strong => places::STRONG_SIZE,
+            Kind::Settlement => places::SETTLEMENT_SIZE,
+        }
     }
-}
 
-// The most bytes of the run of a kind.
-pub fn most_run(k: Kind) -> usize
-    ensures { result ≡ (layout k).most_run }
-{
-    match k {
-        Kind::Weak => 0,
-        Kind::Strong => 0,
-        Kind::Settlement => 0,
+    // The most bytes of the run of this kind: none has one.
+    pub fn most_run(self) -> usize
+        ensures { result ≡ (layout self).most_run }
+    {
+        match self {
+            Kind::Weak | Kind::Strong | Kind::Settlement => 0,
+        }
     }
 }

@@ -1,66 +1,25 @@
-// Messages as the code holds them: made of a request or of the number to settle, their kind and their size.
+// A message's kind and its size.
 ghost use Rattle.std.specs.Prelude.{◌≡◌};
-ghost use Rattle.wire.specs.Message.{request as request_message, settlement, kind_of, size_of, as_message, no_message, said};
+ghost use Rattle.wire.specs.Message.{kind_of, size_of};
 
-use super::{Kind, Message, Subject, layout};
-use numbers::Number;
-use request::Request;
+use super::{Kind, Message};
 
-// The message that spreads r.
-pub fn of_request(r: Request) -> Message
-    ensures { result ≡ as_message (request_message r) }
-{
-    Message {
-        subject: Subject::Request,
-        request: r,
+impl Message {
+    // The kind of a message.
+    pub fn kind(self) -> Kind
+        ensures { result ≡ kind_of self }
+    {
+        match self {
+            Message::Request(r) if r.asked.strong => Kind::Strong,
+            Message::Request(_) => Kind::Weak,
+            Message::Settlement(_) => Kind::Settlement,
+        }
     }
-}
 
-// The message that settles n.
-pub fn of_settlement(n: Number) -> Message
-    ensures { result ≡ as_message (settlement n) }
-{
-    Message {
-        subject: Subject::Settlement,
-        request: request::bare(n),
+    // The bytes that a message has.
+    pub fn size(self) -> usize
+        ensures { result ≡ size_of self }
+    {
+        self.kind().least_size()
     }
-}
-
-// Zeros, where there is no message.
-pub fn nothing() -> Message
-    ensures { result ≡ no_message }
-{
-    Message {
-        subject: Subject::Request,
-        request: request::none(),
-    }
-}
-
-// The kind of a message.
-pub fn kind_of(m: Message) -> Kind
-    ensures { result ≡ kind_of (said m) }
-{
-    let subject = m.subject;
-    match subject {
-        Subject::Request => kind_of_request(m.request),
-        Subject::Settlement => Kind::Settlement,
-    }
-}
-
-// The bytes that a message has.
-pub fn size_of(m: Message) -> usize
-    ensures { result ≡ size_of (said m) }
-{
-    let kind = kind_of(m);
-    layout::least_size(kind)
-}
-
-// The kind of the message that spreads r.
-fn kind_of_request(r: Request) -> Kind
-    ensures { result ≡ kind_of (request_message r) }
-{
-    if r.asked.strong {
-        return Kind::Strong;
-    }
-    Kind::Weak
 }

@@ -1,79 +1,62 @@
 // The writer: a message at the front of a lent part.
 #![tactic(auto)]
 
-ghost use Rattle.std.specs.Prelude.{◌≡◌, ◌≤◌, ◌∷◌, [], length};
+ghost use Rattle.std.specs.Prelude.{◌≡◌, ◌≤◌, ◌∷◌, [], length, drop};
 ghost use Rattle.std.proofs.lemmas.List.Edits.{sets as put};
 ghost use Rattle.wire.specs.Layout.{kind_number};
-ghost use Rattle.fields.specs.Widths.{head_widths, head_size, encode};
-ghost use Rattle.wire.specs.Message.{request as request_message, said, bytes_of, weak_with_context};
+ghost use Rattle.fields.specs.Widths.{head_widths, head_fields, head_size, encode};
+ghost use Rattle.wire.specs.declared.Message.TheVariants.{Request as request_message};
+ghost use Rattle.wire.specs.Message.{contents, widths_of, size_of, bytes_of, weak_with_context, Fits};
 ghost use Rattle.wire.specs.Writer.{Wrote};
-ghost use Rattle.wire.specs.internal.PutAsks.{PutAsks};
 
 use fields::{integers, places, writing};
-use request::{Request, refusal};
-use wire::{Kind, Message, Subject, Written, layout, messages};
+use request::Request;
+use request::refusal::Refusal;
+use wire::{Kind, Message};
 
-// Writes m at the front of out: exactly its bytes, or nothing where it is refused.
-pub fn write(out: &mut [u8], m: Message) -> Written
+// Writes m at the front of out and returns how many bytes it has; where it is refused, nothing is written.
+pub fn write(out: &mut [u8], m: Message) -> Result<usize, Refusal>
     ensures { Wrote m out.old out.new result }
 {
     if weak_with_context(m) {
-        return Written {
-            refusal: refusal::BAD_CONTEXT,
-            bytes: 0,
-        };
+        return Err(Refusal::BadContext);
     }
-    let kind = messages::kind_of(m);
-    let size = messages::size_of(m);
+    let size = m.size();
     if out.len() < size {
-        return Written {
-            refusal: refusal::NO_ROOM,
-            bytes: 0,
-        };
+        return Err(Refusal::NoRoom);
     }
-    put_message(out, m, kind, size);
-    Written {
-        refusal: refusal::ACCEPTED,
-        bytes: size,
-    }
+    put_message(out, m);
+    Ok(size)
 }
 
-// Whether m is a weak request with a context.
+// Whether m is a weak request with a context; its parts show that each fits its field.
 fn weak_with_context(m: Message) -> bool
-    ensures { result ≡ weak_with_context (said m) }
+    ensures tells { result ≡ weak_with_context m }
+    ensures fits { Fits m }
 {
-    let subject = m.subject;
-    match subject {
-        Subject::Request => weak_request_with_context(m.request),
-        Subject::Settlement => false,
+    match m {
+        Message::Request(r) => weak_request_with_context(r),
+        Message::Settlement(_) => false,
     }
 }
 
 // Whether r is weak and has a context.
 fn weak_request_with_context(r: Request) -> bool
-    ensures { result ≡ weak_with_context (request_message r) }
+    ensures tells { result ≡ weak_with_context (request_message r) }
+    ensures fits { Fits (request_message r) }
 {
-    if r.asked.strong {
-        return false;
-    }
-    !sets::is_empty(r.context)
+    !r.asked.strong && !sets::is_empty(r.context)
 }
 
-// Writes m, which is of this kind and size.
-fn put_message(out: &mut [u8], m: Message, kind: Kind, size: usize)
-    requires { PutAsks m kind size out.old }
-    ensures { out.new ≡ put out.old 0 (bytes_of (said m)) }
+// Writes m, for which there is room.
+fn put_message(out: &mut [u8], m: Message)
+    requires { size_of m ≤ length out.old }
+    ensures { out.new ≡ put out.old 0 (bytes_of m) }
 {
-    let request = m.request;
-    put_head(out, kind, size);
-    writing::put_number(out, request.number);
-    match kind {
-        Kind::Weak => writing::put_body(out, request),
-        Kind::Strong => {
-            writing::put_body(out, request);
-            writing::put_context(out, request.context);
-        }
-        Kind::Settlement => {}
+    put_head(out, m.kind(), m.size());
+    match m {
+        Message::Request(r) => put_request(out, r),
+        Message::Settlement(n) => writing::put_number(out, n),
     }
 }
 
@@ -82,7 +65,19 @@ fn put_head(out: &mut [u8], kind: Kind, size: usize)
     requires { head_size ≤ length out.old }
     ensures { out.new ≡ put out.old 0 (encode head_widths (size ∷ kind_number kind ∷ [])) }
 {
-    let number = layout::kind_number(kind) as u64;
+    let number = u64::from(u16::from(kind));
     integers::put_integer(out, places::LENGTH_AT, places::LENGTH_WIDTH, size as u64);
     integers::put_integer(out, places::KIND_AT, places::KIND_WIDTH, number);
+}
+
+// Writes what stands behind length and kind in the message that spreads r.
+fn put_request(out: &mut [u8], r: Request)
+    requires { size_of (request_message r) ≤ length out.old }
+    ensures { out.new ≡ put out.old head_size (encode (drop head_fields (widths_of (request_message r))) (contents (request_message r))) }
+{
+    writing::put_number(out, r.number);
+    writing::put_body(out, r);
+    if r.asked.strong {
+        writing::put_context(out, r.context);
+    }
 }

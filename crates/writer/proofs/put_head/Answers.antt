@@ -4,5 +4,5 @@ use Rattle.writer.proofs.put_head.Goals as goal
 
 pub returns : goal.returns
 returns c =
-    rw (← c.kind_number-number.ensures)
-    (field_then _ _ _ _ _ _ _ _ c.put_integer.ensures (field_last _ _ _ _ _ c.put_integer-2.ensures))
+    rw (← c.from.ensures)
+    (field_then _ _ _ _ _ _ _ _ c.put_integer.ensures (field_last _ _ _ _ _ (rw c.from-number.ensures at c.put_integer-2.ensures)))

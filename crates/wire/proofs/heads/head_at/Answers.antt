@@ -2,42 +2,64 @@
 use Prim.Native.Nat.{ℕ, ◌+◌}
 use mathlib.Core.List.{List}
 use mathlib.Core.Path.{◌≡◌, sym, ap, ◌∙◌}
-use mathlib.Core.Option.{none, some}
-use Rattle.wire.specs.declared.KindTold.{KindTold}
-use Rattle.wire.specs.Layout.{kind_with, told}
+use native.Mathlib.Nat.{add-zero}
+use native.Mathlib.Omega.{arith}
+use Rattle.std.specs.Prelude.{Option, Some, None}
 use Rattle.fields.specs.Integers.{integer_at}
 use Rattle.fields.specs.Widths.{decode}
-use Rattle.wire.specs.Reader.{kind_at}
+use Rattle.wire.specs.declared.Kind.{Kind}
+use Rattle.wire.specs.Layout.{kind_with}
+use Rattle.wire.specs.Reader.{length_at, kind_at, read_as, read_at}
 use Rattle.wire.specs.Head.{head_of}
-use Rattle.wire.proofs.LayoutLaws.{told_known, told-unknown}
-use Rattle.wire.proofs.ReaderLaws.{at-end, head_cut, of_option}
+use Rattle.wire.proofs.KindLaws.{kind_laws}
+use Rattle.wire.proofs.ReaderLaws.{at-end, head_cut, of_option, is_refusal, refused_as, read_as_lem}
+use Rattle.std.proofs.lemmas.Result.{err_from_is_err_and}
 use Rattle.wire.proofs.heads.head_at.Goals as goal
+use Rattle.wire.proofs.heads.head_at.Goals.{In-Some}
 
--- what was told is the kind of the number that stands there
-kind-told : (s : List ℕ) (at n : ℕ) (t : KindTold) → n ≡ integer_at s (at + 2) 2 → t ≡ told (kind_with n) → t ≡ told (kind_with (kind_at s at))
+-- the numbers in front of a message are its length and its kind
+length-read : (s : List ℕ) (at n : ℕ) → n ≡ integer_at s (at + 0) 2 → n ≡ length_at s at
+unfolding length_at decode
+length-read s at n e = e ∙ simp add-zero
+
+kind-read : (s : List ℕ) (at n : ℕ) (o : Option Kind) → n ≡ integer_at s (at + 2) 2 → o ≡ kind_with n → kind_with (kind_at s at) ≡ o
 unfolding kind_at decode
-kind-told s at n t number e = e ∙ ap (λ (n : ℕ). told (kind_with n)) number
+kind-read s at n o number e = sym (e ∙ ap kind_with number)
 
 pub returns-then-len-at : goal.returns-then-len-at
 unfolding head_of
-returns-then-len-at c = c.untaken.ensures ∙ sym (ap head_of (at-end _ _ c.if-len-at.true))
+returns-then-len-at c = sym (ap head_of (at-end _ _ c.if-len-at.true))
 
 pub returns-then-len-at-lt-HEAD_SIZE : goal.returns-then-len-at-lt-HEAD_SIZE
 unfolding head_of
-returns-then-len-at-lt-HEAD_SIZE c =
-    c.untaken-then-len-at-lt-HEAD_SIZE.ensures ∙ sym (ap head_of (head_cut _ _ c.if-len-at.false c.if-len-at-lt-HEAD_SIZE.true))
+returns-then-len-at-lt-HEAD_SIZE c = sym (ap head_of (head_cut _ _ c.if-len-at.false c.if-len-at-lt-HEAD_SIZE.true))
 
-pub returns-in-Known : goal.returns-in-Known
-returns-in-Known c =
-    let t = kind-told _ _ _ _ c.integer_at-number.ensures.0 c.kind_with-told.ensures in
-    let known = told_known _ _ (sym t ∙ c.in-Known.is) in
-    let outcome = of_option _ _ c.if-len-at.false c.if-len-at-lt-HEAD_SIZE.false (some _) known in
-    c.head_as.ensures ∙ sym (ap head_of outcome)
-
-pub returns-in-Unknown : goal.returns-in-Unknown
+pub returns-in_default : goal.returns-in_default
 unfolding head_of
-returns-in-Unknown c =
-    let t = kind-told _ _ _ _ c.integer_at-number.ensures.0 c.kind_with-told.ensures in
-    let unknown = told-unknown _ (sym t ∙ c.in-Unknown.is) in
-    let outcome = of_option _ _ c.if-len-at.false c.if-len-at-lt-HEAD_SIZE.false none unknown in
-    c.untaken-in-Unknown.ensures ∙ sym (ap head_of outcome)
+returns-in_default c =
+    let unknown = kind-read _ _ _ _ c.integer_at-number.ensures.0 c.in_default.ensures in
+    sym (ap head_of (of_option _ _ c.if-len-at.false c.if-len-at-lt-HEAD_SIZE.false None unknown))
+
+pub judge-requires : goal.judge-requires
+judge-requires c = (omega arith, length-read _ _ _ c.integer_at-length.ensures.0)
+
+-- what is read where a kind was told
+as_kind : (c : In-Some) → read_at c.args.s.now c.args.at ≡ read_as c.in-Some.kind c.args.s.now c.args.at
+as_kind c =
+    of_option _ _ c.if-len-at.false c.if-len-at-lt-HEAD_SIZE.false (Some _)
+    (kind-read _ _ _ _ c.integer_at-number.ensures.0 c.in-Some.ensures)
+
+pub returns-in_err-judge : goal.returns-in_err-judge
+unfolding head_of
+returns-in_err-judge c =
+    let word = c.in_err-judge.ensures in
+    let p = err_from_is_err_and c.from_residual.result c.from_residual.ensures.1 in
+    let refused = refused_as _ _ _ (λ e. is_refusal _ (word ∙ e)) in
+    rw (p.1, p.2, word) (sym (ap head_of (as_kind (goal.at.returns-in_err-judge c).In-Some ∙ refused)))
+
+pub returns : goal.returns
+unfolding head_of
+returns c =
+    let kind = as_kind (goal.at.returns c).In-Some in
+    let is = ap head_of (kind ∙ read_as_lem _ _ _ (sym c.in_ok-judge.ensures)) in
+    rw (length-read _ _ _ c.integer_at-length.ensures.0) (sym (is ∙ rw (kind_laws _).kind_kept))

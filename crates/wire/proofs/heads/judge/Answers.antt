@@ -1,9 +1,9 @@
--- `heads::refusal_as` meets its contract, refusal by refusal.
+-- `heads::judge` meets its contract, refusal by refusal.
 use mathlib.Core.Path.{sym, ◌∙◌}
 use native.Mathlib.Omega.{arith}
 use Rattle.wire.specs.Layout.{most_size}
 use Rattle.wire.proofs.ReaderLaws.{too_short, too_long, cut_short_lem, spare-set, laid_out}
-use Rattle.wire.proofs.heads.refusal_as.Goals as goal
+use Rattle.wire.proofs.heads.judge.Goals as goal
 
 -- ---- past each test: the length is not below the kind's least, not above its most, and the message is whole
 
