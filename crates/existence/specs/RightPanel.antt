@@ -17,7 +17,7 @@ use Rattle.wire.specs.Reader.{Outcome, message, end, refused, read_at}
 use Rattle.wire.specs.Layout.{kind_number}
 use Rattle.wire.specs.Message.{kind_of, number_in}
 use Rattle.intake.specs.Intake.{call_of}
-use Rattle.intake.specs.internal.Parts.{nothing}
+use Rattle.intake.specs.Intake.{nothing}
 use Rattle.history.specs.Received.{Reception}
 use Rattle.history.specs.Worthless.{Panel}
 use Rattle.existence.specs.Memory.{memory_of}

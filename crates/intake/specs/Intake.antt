@@ -5,12 +5,13 @@ use Rattle.numbers.specs.Numbers.{no_number}
 use Rattle.creek.specs.declared.Answer.{Answer}
 use Rattle.creek.specs.Book.{Call, Book, deliver, commit, is_accepted}
 use Rattle.creek.specs.Calls.{Replica, step, answer}
-use Rattle.creek.specs.Replies.{done, refused_with, reply_answer}
+use Rattle.creek.specs.Replies.{done, refused_with, reply_answer, reply_in}
 use Rattle.replica.specs.State.{State}
 use Rattle.replica.specs.internal.Model.{model, book_of, Inv}
 use Rattle.wire.specs.Layout.{kind_number}
-use Rattle.wire.specs.Message.{BusMessage, request, settlement, kind_of, number_in}
-use Rattle.wire.specs.Reader.{Outcome, message, end, refused, answered}
+use Rattle.wire.specs.declared.Message.TheVariants.{Request as request, Settlement as settlement}
+use Rattle.wire.specs.Message.{BusMessage, kind_of, number_in}
+use Rattle.wire.specs.Reader.{Outcome, message, end, refused, taken_of}
 use Rattle.intake.specs.declared.Receipt.{Receipt}
 
 -- ---- what stands at a place, o, of a run of bytes
@@ -55,10 +56,14 @@ pub record Received (p : State) (o : Outcome) (r : Receipt) (q : State) : Type 0
   -- which message it was, and its bytes, none where there is none
   pub number : r.number ≡ number_told o
   pub kind : r.kind ≡ kind_told o
-  pub taken : r.taken ≡ (answered o).taken
+  pub taken : r.taken ≡ taken_of o
   -- the answer outright, every field, of which the request is that of zeros
   pub answer : reply_answer r.reply ≡ answer_to (model p) o
   pub state : model q ≡ received (model p) o
   -- what is refused, by the reader or by the panel, leaves the very state
   pub unchanged : is_taken_in (book_of p) o ≡ false → q ≡ p
   pub invariant : Inv q
+
+-- the receipt where nothing was taken in, by that refusal
+abbrev pub nothing : ℕ → Receipt
+nothing w = record { reply = reply_in (refused_with w no_number); number = no_number; kind = 0; taken = 0 }

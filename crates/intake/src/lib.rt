@@ -1,20 +1,23 @@
 // The message at a place of a run of bytes received by a panel: its head is judged, and then its fields go from the bytes to the panel.
 //
-// The panel's parts are lent as in `delivering` and `committing`, whose calls these are. `Intake` of `specs/` says what a message stands for and
-// what receiving promises.
+// `Intake` of `specs/` says what a message stands for and what receiving promises.
 #![tactic(auto)]
 
 ghost use Rattle.std.specs.Prelude.{◌≡◌};
+ghost use Rattle.request.specs.Refusal.{outcome_number};
 ghost use Rattle.creek.specs.Replies.{reply_answer};
+ghost use Rattle.replica.specs.Memory.{memory, SameSpare, Done};
+ghost use Rattle.replica.specs.internal.Model.{Inv};
 ghost use Rattle.wire.specs.Reader.{read_at};
 ghost use Rattle.wire.specs.Head.{GoodHead, message_at};
-ghost use Rattle.intake.specs.internal.Parts.{lent_now, lent_entry, lent_exit, TakeAsks, Taken, nothing, ReceiveKept};
+ghost use Rattle.intake.specs.Intake.{call_of, nothing, Received};
 
 use creek::Reply;
 use fields::reading;
-use numbers::{Number, PanelNo};
-use request::refusal;
-use wire::{HeadAnswer, Kind};
+use numbers::Number;
+use replica::Panel;
+use request::refusal::Refusal;
+use wire::Kind;
 
 // What the message at a place led to: the answer, which has no request; which message it was; and its bytes. Number, kind and bytes are 0
 // where none could be read.
@@ -28,119 +31,47 @@ pub struct Receipt {
 }
 
 // The message at a place is heard or settled; what cannot be read leaves the panel alone.
-pub fn receive<'a>(
-    bytes: &[u8],
-    at: usize,
-    panels: u8,
-    own: PanelNo,
-    committed: &mut usize,
-    ordered: &mut usize,
-    executed: &mut usize,
-    commits: &mut u32,
-    held: &mut [u64; 8],
-    known: &mut [u64; 8],
-    awaiting: &mut [u64; 8],
-    clocks: &mut [u32; 512],
-    askings: &mut [u64; 512],
-    contexts: &mut [u64; 4096],
-    order: &mut [u16; 512],
-    stack: &'a [u16; 512],
-    responses: &'a [u32; 512],
-    settled: &mut [u64; 8],
-) -> Receipt
-    requires { TakeAsks panels own
-        (lent_now committed ordered executed commits held known awaiting clocks askings contexts order stack responses settled) }
-    ensures { ReceiveKept panels own
-        (lent_entry committed ordered executed commits held known awaiting clocks askings contexts order stack responses settled) (read_at bytes.now at)
-        (lent_exit committed ordered executed commits held known awaiting clocks askings contexts order stack responses settled) result }
+pub fn receive(p: &mut Panel, bytes: &[u8], at: usize) -> Receipt
+    requires { Inv (memory p.old) }
+    ensures { Received (memory p.old) (read_at bytes.now at) result (memory p.new)
+        × SameSpare p.old p.new }
 {
-    let head = wire::head_at(bytes, at);
-    let found = head.answer;
-    match found {
-        HeadAnswer::Good(kind) => {
-            let named = reading::number_at(bytes, at);
-            let told = wire::kind_number(kind) as u16;
-            let reply = take_at(
-                bytes, at, kind, panels, own, committed, ordered, executed, commits, held, known,
-                awaiting, clocks, askings, contexts, order, stack, responses, settled,
-            );
-            let taken = head.taken as u32;
+    match wire::head_at(bytes, at) {
+        Ok(Some(head)) => {
+            let number = reading::number_at(bytes, at);
+            let reply = take_at(p, bytes, at, head.kind);
             Receipt {
                 reply,
-                number: named,
-                kind: told,
-                taken,
+                number,
+                kind: u16::from(head.kind),
+                taken: head.taken as u32,
             }
         }
-        HeadAnswer::End => untaken(refusal::ACCEPTED),
-        HeadAnswer::Refused(refusal) => untaken(refusal),
+        Ok(None) => untaken(Ok(())),
+        Err(w) => untaken(Err(w)),
     }
 }
 
 // The message of that kind, whose head stands at a place, is heard or settled.
-fn take_at<'a>(
-    bytes: &[u8],
-    at: usize,
-    kind: Kind,
-    panels: u8,
-    own: PanelNo,
-    committed: &mut usize,
-    ordered: &mut usize,
-    executed: &mut usize,
-    commits: &mut u32,
-    held: &mut [u64; 8],
-    known: &mut [u64; 8],
-    awaiting: &mut [u64; 8],
-    clocks: &mut [u32; 512],
-    askings: &mut [u64; 512],
-    contexts: &mut [u64; 4096],
-    order: &mut [u16; 512],
-    stack: &'a [u16; 512],
-    responses: &'a [u32; 512],
-    settled: &mut [u64; 8],
-) -> Reply
+fn take_at(p: &mut Panel, bytes: &[u8], at: usize, kind: Kind) -> Reply
     requires good_head { GoodHead kind bytes.now at }
-    requires take_asks { TakeAsks panels own
-        (lent_now committed ordered executed commits held known awaiting clocks askings contexts order stack responses settled) }
-    ensures { Taken panels own
-        (lent_entry committed ordered executed commits held known awaiting clocks askings contexts order stack responses settled) (message_at kind bytes.now at)
-        (lent_exit committed ordered executed commits held known awaiting clocks askings contexts order stack responses settled) (reply_answer result) }
+    requires inv { Inv (memory p.old) }
+    ensures { Done p.old (call_of (message_at kind bytes.now at)) (reply_answer result) p.new }
 {
     match kind {
-        Kind::Weak => {
-            let standing = *committed;
-            hearing::hear_at(
-                bytes, at, false, panels, own, standing, ordered, executed, held, known, clocks,
-                askings, contexts, order,
-            )
-        }
-        Kind::Strong => {
-            let standing = *committed;
-            hearing::hear_at(
-                bytes, at, true, panels, own, standing, ordered, executed, held, known, clocks,
-                askings, contexts, order,
-            )
-        }
-        Kind::Settlement => {
-            let number = reading::number_at(bytes, at);
-            let standing = *ordered;
-            committing::commit(
-                panels, standing, committed, executed, commits, held, known, awaiting, clocks,
-                askings, contexts, order, stack, responses, settled, number,
-            )
-        }
+        Kind::Weak => replica::told(hearing::hear_at(p, bytes, at, false)),
+        Kind::Strong => replica::told(hearing::hear_at(p, bytes, at, true)),
+        Kind::Settlement => committing::commit(p, reading::number_at(bytes, at)),
     }
 }
 
-// Nothing was taken in, by that refusal.
-fn untaken(refusal: u8) -> Receipt
-    ensures { result ≡ nothing refusal }
+// Nothing was taken in, by that outcome.
+fn untaken(outcome: Result<(), Refusal>) -> Receipt
+    ensures { result ≡ nothing (outcome_number outcome) }
 {
-    let reply = replica::refusing(refusal);
-    let number = numbers::none();
     Receipt {
-        reply,
-        number,
+        reply: replica::told(outcome),
+        number: numbers::none(),
         kind: 0,
         taken: 0,
     }

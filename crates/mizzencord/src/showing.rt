@@ -1,17 +1,16 @@
 // The calls that show a panel and change nothing.
 //
-// Each hands what it needs of the lent panel to the function of `replica` or `status` of the same name, which says what is shown.
+// Each is the method of the panel of the same name or, for the status of a request, the function of `status`.
 ghost use Rattle.std.specs.Prelude.{◌≡◌};
 ghost use Rattle.creek.specs.Showing.{requests_shown, commits_shown, undos_shown, executions_shown, owed_shown};
 ghost use Rattle.creek.specs.Showing.{panels_shown, own_shown, made_shown};
 ghost use Rattle.replica.specs.internal.Model.{model, Inv};
 ghost use Rattle.replica.specs.Shown.{committed_shown, RegisterShown, PlaceShown};
 ghost use Rattle.status.specs.Status.{StatusShown};
-ghost use Rattle.mizzencord.specs.Memory.{memory};
+ghost use Rattle.replica.specs.Memory.{memory};
 
-use super::Panel;
 use numbers::Number;
-use replica::{PlacedRequest, RegisterValue};
+use replica::{Panel, PlacedRequest, RegisterValue};
 use status::RequestStatus;
 
 // The value of register k, or refusal 3 with 0.
@@ -20,7 +19,7 @@ pub extern "C" fn mizzencord_register(p: &Panel, k: u8) -> RegisterValue
     requires { Inv (memory p.now) }
     ensures { RegisterShown (memory p.now) k result }
 {
-    replica::register(&p.registers, k)
+    p.register(k)
 }
 
 // The count of accepted requests.
@@ -29,7 +28,7 @@ pub extern "C" fn mizzencord_requests(p: &Panel) -> usize
     requires { Inv (memory p.now) }
     ensures { result ≡ requests_shown (model (memory p.now)) }
 {
-    replica::requests(p.ordered)
+    p.requests()
 }
 
 // The length of the settled list.
@@ -38,7 +37,7 @@ pub extern "C" fn mizzencord_committed(p: &Panel) -> usize
     requires { Inv (memory p.now) }
     ensures { result ≡ committed_shown (model (memory p.now)) }
 {
-    replica::committed(p.committed)
+    p.committed()
 }
 
 // The count of accepted settlements.
@@ -47,7 +46,7 @@ pub extern "C" fn mizzencord_commits(p: &Panel) -> u32
     requires { Inv (memory p.now) }
     ensures { result ≡ commits_shown (model (memory p.now)) }
 {
-    replica::commits(p.commits)
+    p.commits()
 }
 
 // The steps owed.
@@ -56,7 +55,7 @@ pub extern "C" fn mizzencord_owed(p: &Panel) -> usize
     requires { Inv (memory p.now) }
     ensures { result ≡ owed_shown (model (memory p.now)) }
 {
-    replica::owed(p.ordered, p.executed, p.stacked)
+    p.owed()
 }
 
 // The undos done.
@@ -65,7 +64,7 @@ pub extern "C" fn mizzencord_undos(p: &Panel) -> u32
     requires { Inv (memory p.now) }
     ensures { result ≡ undos_shown (model (memory p.now)) }
 {
-    replica::undos(p.counters)
+    p.undos()
 }
 
 // The executions done.
@@ -74,7 +73,7 @@ pub extern "C" fn mizzencord_executions(p: &Panel) -> u32
     requires { Inv (memory p.now) }
     ensures { result ≡ executions_shown (model (memory p.now)) }
 {
-    replica::executions(p.counters)
+    p.executions()
 }
 
 // The number of panels of the shop.
@@ -83,7 +82,7 @@ pub extern "C" fn mizzencord_panels(p: &Panel) -> u8
     requires { Inv (memory p.now) }
     ensures { result ≡ panels_shown (model (memory p.now)) }
 {
-    replica::panels(p.panels)
+    p.panels()
 }
 
 // The own panel.
@@ -92,7 +91,7 @@ pub extern "C" fn mizzencord_own(p: &Panel) -> u8
     requires { Inv (memory p.now) }
     ensures { result ≡ own_shown (model (memory p.now)) }
 {
-    replica::own(p.own)
+    p.own()
 }
 
 // The own requests made.
@@ -101,7 +100,7 @@ pub extern "C" fn mizzencord_made(p: &Panel) -> u8
     requires { Inv (memory p.now) }
     ensures { result ≡ made_shown (model (memory p.now)) }
 {
-    replica::made(p.events)
+    p.made()
 }
 
 // The request at a place of the standing order, places counted from 1, or refusal 9 with a request of zeros.
@@ -110,14 +109,7 @@ pub extern "C" fn mizzencord_at_place(p: &Panel, place: usize) -> PlacedRequest
     requires { Inv (memory p.now) }
     ensures { PlaceShown (memory p.now) place result }
 {
-    replica::at_place(
-        p.ordered,
-        &p.clocks,
-        &p.askings,
-        &p.contexts,
-        &p.order,
-        place,
-    )
+    p.at_place(place)
 }
 
 // What the panel has of the request of number n, or refusal 2 or 9 with zeros.
@@ -126,15 +118,5 @@ pub extern "C" fn mizzencord_request_status(p: &Panel, n: Number) -> RequestStat
     requires { Inv (memory p.now) }
     ensures { StatusShown (memory p.now) n result }
 {
-    status::request_status(
-        p.panels,
-        p.committed,
-        p.ordered,
-        p.executed,
-        &p.held,
-        &p.awaiting,
-        &p.order,
-        &p.responses,
-        n,
-    )
+    status::request_status(p, n)
 }

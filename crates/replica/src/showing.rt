@@ -37,11 +37,35 @@ impl Panel {
     }
 
     // The length of the settled list.
-    pub fn settlements(&self) -> usize
+    pub fn committed(&self) -> usize
         requires { Inv (memory self.now) }
         ensures { result ≡ committed_shown (model (memory self.now)) }
     {
         self.committed
+    }
+
+    // The count of accepted settlements.
+    pub fn commits(&self) -> u32
+        requires { Inv (memory self.now) }
+        ensures { result ≡ commits_shown (model (memory self.now)) }
+    {
+        self.commits
+    }
+
+    // The undos done.
+    pub fn undos(&self) -> u32
+        requires { Inv (memory self.now) }
+        ensures { result ≡ undos_shown (model (memory self.now)) }
+    {
+        self.counters.undos
+    }
+
+    // The executions done.
+    pub fn executions(&self) -> u32
+        requires { Inv (memory self.now) }
+        ensures { result ≡ executions_shown (model (memory self.now)) }
+    {
+        self.counters.executions
     }
 
     // The steps owed.
@@ -50,6 +74,30 @@ impl Panel {
         ensures { result ≡ owed_shown (model (memory self.now)) }
     {
         (self.stacked - self.executed) + (self.ordered - self.executed)
+    }
+
+    // The number of panels of the shop.
+    pub fn panels(&self) -> u8
+        requires { Inv (memory self.now) }
+        ensures { result ≡ panels_shown (model (memory self.now)) }
+    {
+        self.panels
+    }
+
+    // The own panel.
+    pub fn own(&self) -> u8
+        requires { Inv (memory self.now) }
+        ensures { result ≡ own_shown (model (memory self.now)) }
+    {
+        self.own.0
+    }
+
+    // The own requests made.
+    pub fn made(&self) -> u8
+        requires { Inv (memory self.now) }
+        ensures { result ≡ made_shown (model (memory self.now)) }
+    {
+        self.events
     }
 
     // The request at a place of the standing order, places counted from 1, or refusal 9 with a request of zeros.

@@ -1,6 +1,6 @@
 -- `receive` meets its contract, by what the head answers.
 use native.Mathlib.Omega.{arith}
-use mathlib.Core.Path.{◌≡◌, sym, ap, ◌∙◌}
+use mathlib.Core.Path.{◌≡◌, refl, sym, ap, ◌∙◌}
 use Rattle.wire.specs.Layout.{kind_number}
 use Rattle.wire.specs.Reader.{message, read_at}
 use Rattle.wire.specs.Head.{message_at}
@@ -9,31 +9,33 @@ use Rattle.wire.proofs.HeadLaws.{good_head, good_reads, end_reads, refused_reads
 use Rattle.wire.proofs.RoundTrip.{taken_least, taken_longest, taken_inside, number-told}
 use Rattle.intake.proofs.IntakeLaws.{receive-message, receive-end, receive-refused}
 use Rattle.intake.proofs.receive.Goals as goal
-use Rattle.intake.proofs.receive.Goals.{In-Good}
+use Rattle.intake.proofs.receive.Goals.{In-Ok-Some}
 
 -- the message that the head tells
-reads : (c : In-Good) → read_at c.args.bytes.now c.args.at
-    ≡ message (message_at c.in-Good.kind c.args.bytes.now c.args.at) c.head_at-head.result.taken
-reads c = good_reads _ _ _ c.head_at-head.ensures _ c.in-Good.is
+reads : (c : In-Ok-Some) → read_at c.args.bytes.now c.args.at
+    ≡ message (message_at c.in-Ok-Some.head.kind c.args.bytes.now c.args.at) c.in-Ok-Some.head.taken
+reads c = good_reads _ _ _ (rw c.in-Ok-Some.field-0-is at c.in-Ok-Some.ensures)
 
-pub number_at-named-requires : goal.number_at-named-requires
-number_at-named-requires c = omega (arith, taken_least _ _ _ _ (reads c), taken_inside _ _ _ _ (reads c))
+pub number_at-number-requires : goal.number_at-number-requires
+number_at-number-requires c = omega (arith, taken_least _ _ _ _ (reads c), taken_inside _ _ _ _ (reads c))
 
-pub take_at-reply-requires : goal.take_at-reply-requires
-take_at-reply-requires c = record { good_head = good_head _ _ _ c.head_at-head.ensures _ c.in-Good.is; take_asks = c.requires }
+pub take_at-reply-requires-clause-good_head : goal.take_at-reply-requires-clause-good_head
+take_at-reply-requires-clause-good_head c = good_head _ _ _ (rw c.in-Ok-Some.field-0-is at c.in-Ok-Some.ensures)
 
-pub overflow_cast-taken : goal.overflow_cast-taken
-overflow_cast-taken c = omega (arith, taken_longest _ _ _ _ (reads (goal.at.overflow_cast-taken c).In-Good))
+pub overflow_cast-result : goal.overflow_cast-result
+overflow_cast-result c = omega (arith, taken_longest _ _ _ _ (reads (goal.at.overflow_cast-result c).In-Ok-Some))
 
-pub returns-in-Good : goal.returns-in-Good
-returns-in-Good c =
-    let told = reads (goal.at.returns-in-Good c).In-Good in
-    receive-message told (c.number_at-named.ensures ∙ sym (number-told _ _ _ _ told))
-    (c.kind_number-told.ensures ∙ ap kind_number (sym ((kind_laws _).kind_kept _))) c.take_at-reply.ensures
+pub returns-in-Ok-Some : goal.returns-in-Ok-Some
+returns-in-Ok-Some c =
+    let told = reads (goal.at.returns-in-Ok-Some c).In-Ok-Some in
+    let reply = c.take_at-reply.ensures in (
+      receive-message told (c.number_at-number.ensures ∙ sym (number-told _ _ _ _ told))
+      (c.from.ensures ∙ ap kind_number (sym ((kind_laws _).kind_kept _))) reply.kept,
+      reply.spare,
+    )
 
-pub returns-in-End : goal.returns-in-End
-returns-in-End c = rw c.untaken.ensures (receive-end (end_reads _ _ _ c.head_at-head.ensures c.in-End.is))
+pub returns-in-Ok-None : goal.returns-in-Ok-None
+returns-in-Ok-None c = (rw c.untaken.ensures (receive-end c.requires (end_reads _ _ (rw c.in-Ok-None.field-0-is at c.in-Ok-None.ensures))), refl)
 
-pub returns-in-Refused : goal.returns-in-Refused
-returns-in-Refused c =
-    rw c.untaken-in-Refused.ensures (receive-refused _ (refused_reads _ _ _ c.head_at-head.ensures _ c.in-Refused.is))
+pub returns-in-Err : goal.returns-in-Err
+returns-in-Err c = (rw c.untaken-in-Err.ensures (receive-refused c.requires _ (refused_reads _ _ _ c.in-Err.ensures)), refl)

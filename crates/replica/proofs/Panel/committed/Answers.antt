@@ -1,6 +1,6 @@
--- `Panel::settlements` meets its contract.
+-- `Panel::committed` meets its contract.
 use Rattle.replica.proofs.ShowingLaws.{committed_are}
-use Rattle.replica.proofs.Panel.settlements.Goals as goal
+use Rattle.replica.proofs.Panel.committed.Goals as goal
 
 pub returns : goal.returns
 returns c = committed_are _ c.requires

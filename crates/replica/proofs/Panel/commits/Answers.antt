@@ -1,0 +1,6 @@
+-- `Panel::commits` meets its contract.
+use Rattle.replica.proofs.ShowingLaws.{commits_are}
+use Rattle.replica.proofs.Panel.commits.Goals as goal
+
+pub returns : goal.returns
+returns c = commits_are _ c.requires

@@ -1,0 +1,6 @@
+-- `Panel::made` meets its contract.
+use Rattle.replica.proofs.ShowingLaws.{made_are}
+use Rattle.replica.proofs.Panel.made.Goals as goal
+
+pub returns : goal.returns
+returns c = made_are _ c.requires

@@ -1,0 +1,6 @@
+-- `Panel::own` meets its contract.
+use Rattle.replica.proofs.ShowingLaws.{own_is}
+use Rattle.replica.proofs.Panel.own.Goals as goal
+
+pub returns : goal.returns
+returns c = own_is _ c.requires

@@ -1,0 +1,6 @@
+-- `Panel::panels` meets its contract.
+use Rattle.replica.proofs.ShowingLaws.{panels_are}
+use Rattle.replica.proofs.Panel.panels.Goals as goal
+
+pub returns : goal.returns
+returns c = panels_are _ c.requires

@@ -1,0 +1,8 @@
+-- `Panel::undos` meets its contract.
+use mathlib.Core.Path.{refl}
+use Rattle.replica.specs.internal.Model.{model}
+use Rattle.replica.proofs.Panel.undos.Goals as goal
+
+pub returns : goal.returns
+unfolding model
+returns c = refl
