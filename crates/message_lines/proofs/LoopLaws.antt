@@ -1,6 +1,7 @@
 -- Laws of the messages and their lines, in this order: what a receipt tells; a message's line; the loop over all that is found.
 use Prim.Native.Nat.{ℕ, ◌+◌, ◌*◌, ◌-◌, ◌≤◌, ◌<◌, ◌^◌}
 use mathlib.Core.Path.{◌≡◌, refl, sym, ap, ◌∙◌, subst}
+use mathlib.Core.Bool.{Bool, true, false, cond}
 use mathlib.Core.List.{List, [], ◌∷◌, ◌++◌}
 use native.Mathlib.Numerals.{add-one}
 use native.Mathlib.Omega.{arith}
@@ -12,18 +13,22 @@ use Rattle.report.specs.Sizes.{most_message_bytes}
 use Rattle.report.proofs.SizeLaws.{unread_short}
 use Rattle.creek.specs.declared.Answer.{Answer}
 use Rattle.creek.specs.Replies.{reply_answer}
-use Rattle.creek.specs.Calls.{Replica}
+use Rattle.creek.specs.Book.{deliver, commit, is_accepted}
+use Rattle.creek.specs.Calls.{Replica, accept, step}
 use Rattle.creek.specs.History.{idled}
 use Rattle.creek.specs.Showing.{undos_shown}
+use Rattle.creek.proofs.DueLaws.{undos-done}
+use Rattle.due.specs.Due.{DueOutcome, RunDue}
 use Rattle.replica.specs.State.{State}
 use Rattle.replica.specs.internal.Model.{model, Inv}
 use Rattle.wire.specs.Layout.{least_message}
+use Rattle.wire.specs.declared.Message.TheVariants.{Request as request, Settlement as settlement}
 use Rattle.wire.specs.Message.{BusMessage}
-use Rattle.wire.specs.Reader.{Outcome, message, end, refused, answered, read_at}
+use Rattle.wire.specs.Reader.{Outcome, message, end, refused, taken_of, read_at}
 use Rattle.wire.proofs.ReaderLaws.{not_at_end}
 use Rattle.wire.proofs.RoundTrip.{taken_least, taken_inside}
 use Rattle.intake.specs.declared.Receipt.{Receipt}
-use Rattle.intake.specs.Intake.{answer_to, number_told, kind_told, received, Received}
+use Rattle.intake.specs.Intake.{call_of, answer_to, number_told, kind_told, received, Received}
 use Rattle.runs.specs.Found.{found_from}
 use Rattle.runs.proofs.FoundLaws.{bytes_of, one_found, none_found}
 use Rattle.printed.specs.Printout.{after, after_all, refusal_in, undone_in, line_of_message, line_for, message_lines}
@@ -32,23 +37,18 @@ use Rattle.message_lines.specs.LinesPut.{LinePut, Idle, AllPut}
 
 -- ---- what a receipt tells
 
-message_by : (o : Outcome) (r : Receipt) → r.taken ≡ (answered o).taken → (r.taken ≡ 0 → ⊥)
+message_by : (o : Outcome) (r : Receipt) → r.taken ≡ taken_of o → (r.taken ≡ 0 → ⊥)
     → (m : BusMessage) × (o ≡ message m r.taken)
-unfolding answered
 message_by (message m n) r e took = (m, ap (message m) (sym e))
 message_by end r e took = absurd (took e)
 message_by (refused w) r e took = absurd (took e)
 
-refused_by_lem : (p : Replica) (o : Outcome) (r : Receipt) → r.taken ≡ (answered o).taken → reply_answer r.reply ≡ answer_to p o
+refused_by_lem : (p : Replica) (o : Outcome) (r : Receipt) → r.taken ≡ taken_of o → reply_answer r.reply ≡ answer_to p o
     → (o ≡ end → ⊥) → ((m : BusMessage) (n : ℕ) → o ≡ message m n → least_message ≤ n) → r.taken ≡ 0 → o ≡ refused r.reply.refusal
-unfolding answered answer_to
+unfolding answer_to
 refused_by_lem p (message m n) r e a more least untaken = absurd (omega (arith, least m n refl))
 refused_by_lem p end r e a more least untaken = absurd (more refl)
 refused_by_lem p (refused w) r e a more least untaken = ap refused (sym (ap (λ (x : Answer). x.refusal) a))
-
--- the panel after it
-abbrev pub state_after : {p : State} {o : Outcome} {r : Receipt} {q : State} → Received p o r q → State
-state_after {q = q} got = q
 
 -- the message that was received where bytes were taken
 message_there : {p q : State} {r : Receipt} (s : List ℕ) (at : ℕ) → Received p (read_at s at) r q → (r.taken ≡ 0 → ⊥)
@@ -78,6 +78,33 @@ pub undos_are : (p : State) → p.counters.undos ≡ undos_shown (model p)
 unfolding model
 undos_are p = refl
 
+-- no message counts an undo
+received_undos : (r : Replica) (o : Outcome) → undos_shown (received r o) ≡ undos_shown r
+unfolding received call_of step accept
+received_undos r (message (request x) n) = go (is_accepted r.book (deliver x))
+  where
+    go : (b : Bool) → undos_shown (cond b (accept r (deliver x)) r) ≡ undos_shown r
+    go true = omega arith
+    go false = refl
+received_undos r (message (settlement m) n) = go (is_accepted r.book (commit m))
+  where
+    go : (b : Bool) → undos_shown (cond b (accept r (commit m)) r) ≡ undos_shown r
+    go true = omega arith
+    go false = refl
+received_undos r end = refl
+received_undos r (refused w) = refl
+
+pub same_undos : {p q : State} {o : Outcome} {r : Receipt} → Received p o r q → q.counters.undos ≡ p.counters.undos
+same_undos {p} {q} {o} got = undos_are q ∙ ap undos_shown got.state ∙ received_undos (model p) o ∙ sym (undos_are p)
+
+-- every due step was done, of which so many were undos
+pub idle-by : {p : State} {r : DueOutcome} → RunDue p r → Idle p r.state r.undos
+idle-by {p} {r} ran = record {
+  state = ran.state;
+  counted = omega (arith, undos_are r.state, ap undos_shown ran.state, undos-done (model p), undos_are p, ran.undos);
+  invariant = ran.invariant;
+}
+
 -- what was put and received up to a place, where what is left to do from there is the whole job
 pub record Putting (p₀ : State) (s out : List ℕ) (from : ℕ) (p : State) (out₁ : List ℕ) (at behind place : ℕ) : Type 0 where
   pub inside : at ≤ length s
@@ -87,11 +114,6 @@ pub record Putting (p₀ : State) (s out : List ℕ) (from : ℕ) (p : State) (o
   pub few : behind + most_message_bytes ≤ from + place * most_message_bytes
   -- each message took the bytes of the shortest
   pub paced : least_message * place + shop_bytes ≤ at + least_message
-
--- the panel there
-abbrev pub panel_in : {p₀ : State} {s out : List ℕ} {from : ℕ} {p : State} {out₁ : List ℕ} {at behind place : ℕ}
-    → Putting p₀ s out from p out₁ at behind place → State
-panel_in {p = p} put = p
 
 pub put_start : (s out : List ℕ) (from : ℕ) (p : State) → Inv p → shop_bytes ≤ length s → Putting p s out from p out shop_bytes from 1
 put_start s out from p inv h = record {
@@ -147,7 +169,7 @@ module _ {p₀ : State} {s out : List ℕ} {from : ℕ} {p : State} {out₁ : Li
             let inside = taken_inside s at there.0 r.taken there.1 in
             (omega arith, least, inside)
 
-        module _ {q₁ : State} {n₁ : ℕ} (ran : Idle q q₁ n₁) (same : q.counters.undos ≡ p.counters.undos) where
+        module _ {q₁ : State} {n₁ : ℕ} (ran : Idle q q₁ n₁) where
           pub put_step : {out₂ : List ℕ} {behind₂ : ℕ} → LinePut place r.kind r.number r.reply.refusal n₁ out₁ behind out₂ behind₂
               → Putting p₀ s out from q₁ out₂ (at + r.taken) behind₂ (place + 1)
           unfolding after_all after refusal_in answer_to received
@@ -164,7 +186,7 @@ module _ {p₀ : State} {s out : List ℕ} {from : ℕ} {p : State} {out₁ : Li
               let refusal : r.reply.refusal ≡ refusal_in (model p) (message m n) =
               ap (λ (a : Answer). a.refusal) (got.answer ∙ ap (answer_to (model p)) is) in
               let undone : n₁ ≡ undone_in (model p) (message m n) =
-              omega (arith, ran.counted, same, undos_are p, undos_are q₁, ap undos_shown stands) in
+              omega (arith, ran.counted, same_undos got, undos_are p, undos_are q₁, ap undos_shown stands) in
               let lines =
               ap (message_lines place (model p)) one ∙ lines_next place (model p) (model q₁) m n _ _ rest stands refusal undone
               ∙ ap (λ (l : List ℕ). l ++ message_lines (place + 1) (model q₁) rest) (line-told m n got is place _ _) in

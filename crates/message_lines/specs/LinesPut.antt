@@ -7,8 +7,6 @@ use Rattle.report.specs.Sizes.{most_message_bytes}
 use Rattle.creek.specs.History.{idled}
 use Rattle.replica.specs.State.{State}
 use Rattle.replica.specs.internal.Model.{model, Inv}
-use Rattle.replica.specs.internal.Parts.{with_counters}
-use Rattle.steps.specs.Lent.{ExecuteLent, executing}
 use Rattle.runs.specs.Found.{found_from}
 use Rattle.printed.specs.Printout.{after_all, message_lines, shop_bytes, most_messages}
 
@@ -18,19 +16,11 @@ pub record LinePut (place kind : ℕ) (number : Number) (refusal undone : ℕ) (
   pub written : Placed out at (message_line place kind number.panel.0 number.event.0 refusal undone) out' behind
   pub few : behind ≤ at + most_message_bytes
 
--- a panel with what due steps are lent, and those counters
-abbrev pub idling : ExecuteLent → (undos executions : ℕ) → State → State
-idling l undos executions p = executing l (with_counters (record { undos = undos; executions = executions }) p)
-
 -- every due step was done on p, which is q then, and so many undos were counted
 pub record Idle (p q : State) (undone : ℕ) : Type 0 where
   pub state : model q ≡ idled (model p)
   pub counted : q.counters.undos ≡ p.counters.undos + undone
   pub invariant : Inv q
-
--- the same of every panel with the parts that are lent, as they were before and are after
-pub record IdleKept (before later : State → State) (undone : ℕ) : Type 0 where
-  pub kept : (p : State) → Inv (before p) → Idle (before p) (later p) undone
 
 -- all that is found in the input was received by p, which is q then, and its lines were put
 pub record AllPut (p : State) (s out : List ℕ) (at : ℕ) (q : State) (out' : List ℕ) (behind : ℕ) : Type 0 where

@@ -11,11 +11,11 @@ use Rattle.message_lines.proofs.put_line.Goals.{Start}
 
 -- what the types say
 small : (c : Start) → let a = c.args in
-    (a.kind < 2 ^ 16) × (a.number.panel.0 < 2 ^ 8) × (a.number.event.0 < 2 ^ 8) × (a.refusal < 2 ^ 8) × (a.undone < 2 ^ 32)
+    (a.receipt.kind < 2 ^ 16) × (a.receipt.number.panel.0 < 2 ^ 8) × (a.receipt.number.event.0 < 2 ^ 8) × (a.receipt.reply.refusal < 2 ^ 8) × (a.undone < 2 ^ 32)
 small c = (search rules, search rules, search rules, search rules, search rules)
 
 short : (c : Start) → let a = c.args in
-    length (message_line a.place a.kind a.number.panel.0 a.number.event.0 a.refusal a.undone) ≤ most_message_bytes
+    length (message_line a.place a.receipt.kind a.receipt.number.panel.0 a.receipt.number.event.0 a.receipt.reply.refusal a.undone) ≤ most_message_bytes
 short c =
     let s = small c in
     message_short _ _ _ _ _ _ (omega (arith, c.requires.place_le_most_input)) s.0 s.1 s.2 s.3 s.4

@@ -9,7 +9,7 @@ use Rattle.report.specs.Sizes.{most_message_bytes}
 use Rattle.report.proofs.SizeLaws.{unread_short}
 use Rattle.wire.specs.Layout.{least_message}
 use Rattle.printed.specs.Printout.{most_input}
-use Rattle.message_lines.proofs.LoopLaws.{Putting, panel_in, state_after, put_start, line_room, put_last, within, put_step, put-end}
+use Rattle.message_lines.proofs.LoopLaws.{Putting, put_start, line_room, put_last, within, put_step, put-end}
 use Rattle.message_lines.proofs.put_messages.Goals as goal
 use Rattle.message_lines.proofs.put_messages.Goals.{After-receive-receipt, Else-taken-eq0, In-loop-at}
 
@@ -19,9 +19,7 @@ loop-at-init c = put_start _ _ _ _ c.requires.inv c.requires.shop_bytes_in_bound
 -- ---- the turn
 
 pub receive-receipt-requires : goal.receive-receipt-requires
-receive-receipt-requires c =
-    let put = c.loop-at.invariant in
-    record { panel = panel_in put; invariant = put.invariant }
+receive-receipt-requires c = c.loop-at.invariant.invariant
 
 -- there is room for a line, and its place is one of few
 room : (c : In-loop-at) → let l = c.loop-at in
@@ -48,8 +46,7 @@ shape_of-out-then-taken-eq0 c = same_size c.put_unread.ensures ∙ c.loop-at.inv
 pub returns-then-taken-eq0 : goal.returns-then-taken-eq0
 returns-then-taken-eq0 c =
     let put = c.loop-at.invariant in
-    let got = c.receive-receipt.ensures.kept (panel_in put) put.invariant in
-    put_last put c.loop-at-test.true got c.if-taken-eq0.true c.requires.input_len_bound
+    put_last put c.loop-at-test.true c.receive-receipt.ensures.0 c.if-taken-eq0.true c.requires.input_len_bound
     (small (goal.at.returns-then-taken-eq0 c).After-receive-receipt) c.put_unread.ensures
 
 -- ---- a message
@@ -62,13 +59,10 @@ inside : (c : Else-taken-eq0) →
     (at + least_message ≤ size) × (least_message ≤ n) × (at + n ≤ size)
 inside c =
     let put = c.loop-at.invariant in
-    within put c.loop-at-test.true (c.receive-receipt.ensures.kept (panel_in put) put.invariant) c.if-taken-eq0.false
+    within put c.loop-at-test.true c.receive-receipt.ensures.0 c.if-taken-eq0.false
 
 pub idle-undone-requires : goal.idle-undone-requires
-idle-undone-requires c =
-    let put = c.loop-at.invariant in
-    let got = c.receive-receipt.ensures.kept (panel_in put) put.invariant in
-    record { panel = state_after got; invariant = got.invariant }
+idle-undone-requires c = c.receive-receipt.ensures.0.invariant
 
 pub put_line-behind-requires : goal.put_line-behind-requires
 put_line-behind-requires c =
@@ -88,10 +82,7 @@ loop-at-smaller c =
 
 pub loop-at-preserved : goal.loop-at-preserved
 loop-at-preserved c =
-    let put = c.loop-at.invariant in
-    let got = c.receive-receipt.ensures.kept (panel_in put) put.invariant in
-    let steps = c.idle-undone.ensures.kept (state_after got) got.invariant in
-    put_step put c.loop-at-test.true got c.if-taken-eq0.false steps refl c.put_line-behind.ensures
+    put_step c.loop-at.invariant c.loop-at-test.true c.receive-receipt.ensures.0 c.if-taken-eq0.false c.idle-undone.ensures c.put_line-behind.ensures
 
 -- ---- the end
 
