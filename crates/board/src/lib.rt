@@ -8,51 +8,31 @@ ghost use Rattle.board.specs.Board.{TopAsks, TakenOff, PutOn};
 
 use creek::Reply;
 use creek::mark::{NOBODY, STABLE, TENTATIVE, WEAK};
+use replica::Panel;
 use request::{asks, refusal};
 
 // Rolls back the request at the place `top` on the board, from what was saved there; its slot.
-pub fn take_off<'a>(
-    askings: &'a [u64; 512],
-    stack: &'a [u16; 512],
-    registers: &mut [u32; 64],
-    saved: &'a [u64; 512],
-    top: usize,
-) -> u16
-    requires { TopAsks stack.now top }
-    ensures { TakenOff askings.now stack.now registers.old saved.now top
-        registers.new result }
+pub fn take_off(p: &mut Panel, top: usize) -> u16
+    requires { TopAsks p.old.stack top }
+    ensures { TakenOff p.old top p.new result }
 {
-    let slot = stack[top];
-    let word = saved[top];
-    let asked = store::asked_at(askings, slot as usize);
-    let operation = asks::operation(asked);
-    registers::rollback(registers, operation, registers::saved_in(word));
+    let slot = p.stack[top];
+    let asked = store::asked_at(&p.askings, slot as usize);
+    let saved = registers::saved_in(p.saved[top]);
+    registers::rollback(&mut p.registers, asks::operation(asked), saved);
     slot
 }
 
-// Puts the request in that slot, of that strength, on the board at place `at`, with what was saved before it and its response; so many of
-// the order are committed. Its reply.
-pub fn put_on(
-    committed: usize,
-    awaiting: &mut [u64; 8],
-    stack: &mut [u16; 512],
-    saved: &mut [u64; 512],
-    responses: &mut [u32; 512],
-    at: usize,
-    slot: u16,
-    strong: bool,
-    word: u64,
-    response: u32,
-) -> Reply
+// Puts the request in that slot, of that strength, on the board at place `at`, with what was saved before it and its response. Its reply.
+pub fn put_on(p: &mut Panel, at: usize, slot: u16, strong: bool, word: u64, response: u32) -> Reply
     requires { at < most_slots }
-    ensures { PutOn committed awaiting.old stack.old saved.old responses.old at slot strong
-        word response awaiting.new stack.new saved.new responses.new result }
+    ensures { PutOn p.old at slot strong word response p.new result }
 {
-    stack[at] = slot;
-    saved[at] = word;
-    responses[at] = response;
+    p.stack[at] = slot;
+    p.saved[at] = word;
+    p.responses[at] = response;
     let number = numbers::number_of(slot);
-    if !members::member_at(awaiting, slot) {
+    if !members::member_at(&p.awaiting, slot) {
         return Reply {
             response,
             number,
@@ -60,8 +40,8 @@ pub fn put_on(
             refusal: refusal::ACCEPTED,
         };
     }
-    let mark = mark_of(strong, at < committed);
-    replica::end_waiting(awaiting, number, mark);
+    let mark = mark_of(strong, at < p.committed);
+    replica::end_waiting(&mut p.awaiting, number, mark);
     Reply {
         response,
         number,

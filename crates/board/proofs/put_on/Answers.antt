@@ -6,9 +6,7 @@ use Rattle.board.proofs.put_on.Goals as goal
 pub returns-then-not-member_at : goal.returns-then-not-member_at
 returns-then-not-member_at c =
     record {
-      on_board_is = refl;
-      kept = refl;
-      replied = refl;
+      panel = refl;
       number = c.number_of-number.ensures;
       its-response = refl;
       refusal = refl;
@@ -20,9 +18,7 @@ returns-then-not-member_at c =
 pub returns : goal.returns
 returns c =
     record {
-      on_board_is = refl;
-      kept = refl;
-      replied = refl;
+      panel = refl;
       number = c.number_of-number.ensures;
       its-response = refl;
       refusal = refl;

@@ -4,4 +4,5 @@ use Rattle.board.proofs.take_off.Goals as goal
 
 pub returns : goal.returns
 returns c =
-    record { slot = refl; rolled_back_is = c.rollback.ensures ∙ rw (c.operation-operation.ensures, c.asked_at-asked.ensures, c.saved_in.ensures) }
+    let back = c.rollback.ensures ∙ rw (c.operation.ensures, c.asked_at-asked.ensures, c.saved_in-saved.ensures) in
+    record { slot = refl; panel = λ i. record c.args.p.now { registers = back i } }
