@@ -1,4 +1,4 @@
--- Laws of undo and of execute: of a state, then of every panel with the parts lent.
+-- Laws of undo and of execute: of a state, then of a panel in place.
 pub mod UndoLaws
 pub mod ExecuteLaws
-pub mod StepParts
+pub mod StepLaws

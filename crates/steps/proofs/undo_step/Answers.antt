@@ -1,5 +1,0 @@
--- `steps::undo_step` meets its contract.
-use Rattle.steps.proofs.undo_step.Goals as goal
-
-pub returns : goal.returns
-returns c = let answered = c.before in rw (answered.answer_of-answer.ensures, c.steps_done-undos.ensures) answered.undo-undone.ensures
