@@ -35,7 +35,7 @@ use Rattle.store.specs.Requests.{asked_in, request_at}
 use Rattle.replica.specs.Promises.{Kept}
 use Rattle.replica.specs.internal.Model.{order_of, plan_of, book_of, model, saved_at, Inv}
 use Rattle.due.specs.Due.{DueOutcome, no_reply, is_awaited, due_replies, most_replies, padded, replies_owed, RunDue}
-use Rattle.due.specs.internal.Parts.{SameJob, RolledBack, ExecutedAll}
+use Rattle.due.specs.internal.Job.{SameJob, RolledBack, ExecutedAll}
 use Rattle.replica.proofs.States.{undone_state, executed_state}
 use Rattle.replica.proofs.ModelLaws.{request_of, top_slot, next_slot, order-planned, plan_sound, length-order, rollback_first, rollback_none, rollback-length, todo-length, order-next}
 use Rattle.steps.proofs.UndoLaws.{undo-kept}

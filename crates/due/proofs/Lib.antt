@@ -1,4 +1,4 @@
--- Laws of all due steps: of a state, then of every panel with the parts lent.
+-- Laws of all due steps: of a state, then of a panel in place.
 pub mod OwnLaws
 pub mod DueLaws
-pub mod DueParts
+pub mod LoopLaws

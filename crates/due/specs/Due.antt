@@ -11,6 +11,7 @@ use Rattle.creek.specs.Showing.{owed_shown}
 use Rattle.creek.specs.declared.Reply.{Reply}
 use Rattle.replica.specs.State.{State}
 use Rattle.replica.specs.internal.Model.{model, Inv}
+use Rattle.due.specs.declared.DueSteps.{DueSteps}
 
 -- ---- the replies
 
@@ -45,6 +46,16 @@ pub record DueOutcome : Type 0 where
   pub count : ℕ
   pub replies : List Reply
   pub state : State
+
+-- those steps, which led to that state
+abbrev pub ran : DueSteps → State → DueOutcome
+ran r q = record {
+  undos = r.undos;
+  executions = r.executions;
+  count = r.count;
+  replies = r.replies;
+  state = q;
+}
 
 -- the replies that fall due until it is idle
 abbrev pub replies_owed : State → List Reply

@@ -1,15 +1,16 @@
 // All due steps in one call: what is to be rolled back is undone, then what is to do is executed.
 #![tactic(auto)]
 
-ghost use Rattle.std.specs.Prelude.{◌≡◌};
-ghost use Rattle.steps.specs.Lent.{undo_now, undo_entry, undo_exit, execute_now, execute_entry, execute_exit};
-ghost use Rattle.steps.specs.Steps.{UndoAsks, ExecuteAsks};
-ghost use Rattle.due.specs.Due.{no_reply};
-ghost use Rattle.due.specs.internal.Parts.{AllUndone, AllExecuted, DueKept};
+ghost use Rattle.std.specs.Prelude.{◌≡◌, ◌-◌};
+ghost use Rattle.replica.specs.Memory.{memory, SameSpare};
+ghost use Rattle.replica.specs.internal.Model.{Inv};
+ghost use Rattle.due.specs.Due.{no_reply, ran, RunDue};
+ghost use Rattle.due.specs.internal.Job.{RolledBack, ExecutedAll};
 
 use creek::Reply;
 use creek::mark::NOBODY;
 use numbers::Number;
+use replica::Panel;
 use request::{asks, refusal};
 
 // What all due steps were: how many undos and executions, and the replies that fell due, of which there are `count`.
@@ -23,105 +24,59 @@ pub struct DueSteps {
 }
 
 // Every due step until the panel is idle, with the replies that fall due on the way.
-pub fn run_due<'a>(
-    committed: usize,
-    ordered: usize,
-    executed: &mut usize,
-    stacked: &mut usize,
-    awaiting: &mut [u64; 8],
-    askings: &'a [u64; 512],
-    order: &'a [u16; 512],
-    stack: &mut [u16; 512],
-    registers: &mut [u32; 64],
-    saved: &mut [u64; 512],
-    responses: &mut [u32; 512],
-) -> DueSteps
-    requires { ExecuteAsks (execute_now committed ordered executed stacked awaiting askings order stack registers saved responses) }
-    ensures { DueKept (execute_entry committed ordered executed stacked awaiting askings order stack registers saved responses)
-        (execute_exit committed ordered executed stacked awaiting askings order stack registers saved responses) result }
+pub fn run_due(p: &mut Panel) -> DueSteps
+    requires { Inv (memory p.old) }
+    ensures { RunDue (memory p.old) (ran result (memory p.new)) × SameSpare p.old p.new }
 {
-    let undos = (*stacked - *executed) as u32;
-    roll_back_all(*executed, stacked, askings, stack, registers, saved);
-    execute_all(
-        committed, ordered, executed, stacked, undos, awaiting, askings, order, stack, registers,
-        saved, responses,
-    )
+    let undos = roll_back_all(p);
+    execute_all(p, undos)
 }
 
-// Undoes what is to be rolled back.
-fn roll_back_all<'a>(
-    executed: usize,
-    stacked: &mut usize,
-    askings: &'a [u64; 512],
-    stack: &'a [u16; 512],
-    registers: &mut [u32; 64],
-    saved: &'a [u64; 512],
-)
-    requires { UndoAsks (undo_now executed stacked askings stack registers saved) }
-    ensures { AllUndone (undo_entry executed stacked askings stack registers saved)
-        (undo_exit executed stacked askings stack registers saved) }
+// Undoes what is to be rolled back; how many undos these were.
+fn roll_back_all(p: &mut Panel) -> u32
+    requires { Inv (memory p.old) }
+    ensures back { RolledBack (memory p.old) (memory p.new) × SameSpare p.old p.new }
+    ensures undos { result ≡ p.old.stacked - p.old.executed }
 {
-    let mut left = *stacked;
-    while executed < left {
-        left -= 1;
-        board::take_off(askings, stack, registers, saved, left);
+    let executed = p.executed;
+    let stacked = p.stacked;
+    for left in (executed..stacked).rev() {
+        board::take_off(p, left);
     }
-    *stacked = left;
+    let undos = (stacked - executed) as u32;
+    p.stacked = executed;
+    counters::count_undos(&mut p.counters, undos);
+    undos
 }
 
 // Executes what is to do, with nothing to be rolled back; `undos` is handed through.
-fn execute_all<'a>(
-    committed: usize,
-    ordered: usize,
-    executed: &mut usize,
-    stacked: &mut usize,
-    undos: u32,
-    awaiting: &mut [u64; 8],
-    askings: &'a [u64; 512],
-    order: &'a [u16; 512],
-    stack: &mut [u16; 512],
-    registers: &mut [u32; 64],
-    saved: &mut [u64; 512],
-    responses: &mut [u32; 512],
-) -> DueSteps
-    requires parts { ExecuteAsks (execute_now committed ordered executed stacked awaiting askings order stack registers saved responses) }
-    requires nothing_to_undo { executed.old ≡ stacked.old }
-    ensures { AllExecuted (execute_entry committed ordered executed stacked awaiting askings order stack registers saved responses)
-        undos (execute_exit committed ordered executed stacked awaiting askings order stack registers saved responses) result }
+fn execute_all(p: &mut Panel, undos: u32) -> DueSteps
+    requires inv { Inv (memory p.old) }
+    requires nothing_to_undo { p.old.executed ≡ p.old.stacked }
+    ensures { ExecutedAll (memory p.old) undos (ran result (memory p.new)) × SameSpare p.old p.new }
 {
-    let first = *executed;
+    let first = p.executed;
+    let ordered = p.ordered;
     let executions = (ordered - first) as u32;
     let mut replies = [no_reply(); 64];
     let mut count: usize = 0;
-    let mut at = first;
-    while at < ordered {
-        let slot = order[at];
-        let asked = store::asked_at(askings, slot as usize);
+    for at in first..ordered {
+        let slot = p.order[at];
+        let asked = store::asked_at(&p.askings, slot as usize);
         let operation = asks::operation(asked);
-        let before = registers::save(registers, operation);
+        let before = registers::save(&p.registers, operation);
         let word = registers::saved_word(before);
-        let response = executing::execute_due(registers, operation);
-        let next = board::put_on(
-            committed,
-            awaiting,
-            stack,
-            saved,
-            responses,
-            at,
-            slot,
-            asked.strong,
-            word,
-            response,
-        );
-        at += 1;
+        let response = executing::execute_due(&mut p.registers, operation);
+        let next = board::put_on(p, at, slot, asked.strong, word, response);
         if next.mark == NOBODY {
             continue;
         }
         replies[count] = next;
         count += 1;
     }
-    *executed = ordered;
-    *stacked = ordered;
+    p.executed = ordered;
+    p.stacked = ordered;
+    counters::count_executions(&mut p.counters, executions);
     DueSteps {
         undos,
         executions,
