@@ -1,13 +1,19 @@
--- Laws of the first element of a list that passes a test, which stands behind those that fail it; and of the response of the first request
--- of a number.
+-- Laws of the first element of a list that passes a test, which stands behind those that fail it, of its place, and of the response of the
+-- first request of a number.
 use Prim.Native.Nat.{ℕ, zero, suc, ◌+◌, ◌≤◌, ◌<◌}
 use native.Mathlib.Omega.{arith}
 use mathlib.Core.Path.{◌≡◌, refl, ap}
 use mathlib.Core.Bool.{Bool, true, false, not, cond}
 use mathlib.Core.List.{List, [], ◌∷◌}
 use lib.ListN.{length, take, get_or}
+use lib.Dec.{ltb}
+use borrow.Author.Tests.{ltb-false}
+use Rattle.std.specs.Prelude.{position, Some, None}
+use Rattle.std.specs.List.{position_or_len, prefix_len}
+use Rattle.std.specs.Option.{unwrap_or}
 use Rattle.lists.specs.Lists.{one, count}
 use Rattle.lists.specs.Places.{leading}
+use Rattle.lists.proofs.PlaceLaws.{leading_most}
 use Rattle.numbers.specs.declared.Number.{Number}
 use Rattle.request.specs.declared.Request.{Request}
 use Rattle.request.specs.Asked.{operation_of}
@@ -67,3 +73,18 @@ response_first b n (x ∷ xs) h = go (has_number n x) h (response_first (exec (o
         (replay_on b (operations (take (cond (not v) (suc (first (has_number n) xs)) 0) (x ∷ xs))))
     go true h further = refl
     go false h further = further (omega arith)
+
+-- ---- the first place at which a test passes, or the length
+
+module _ {A : Type 0} where
+  prefix_is : (p : A → Bool) (l : List A) → prefix_len p l ≡ leading p l
+  prefix_is p [] = refl
+  prefix_is p (x ∷ xs) = ap (λ (n : ℕ). cond (p x) n 0) (omega (arith, prefix_is p xs))
+
+  pub place_or_length : (p : A → Bool) (l : List A) → unwrap_or (position p l) (length l) ≡ leading (λ t. not (p t)) l
+  place_or_length p l = go (ltb (position_or_len p l) (length l)) refl
+    where
+      go : (b : Bool) → ltb (position_or_len p l) (length l) ≡ b
+          → unwrap_or (cond b (Some (position_or_len p l)) None) (length l) ≡ leading (λ t. not (p t)) l
+      go true e = prefix_is (λ t. not (p t)) l
+      go false e = omega (arith, ltb-false _ _ e, prefix_is (λ t. not (p t)) l, leading_most (λ t. not (p t)) l)

@@ -7,7 +7,7 @@ use mathlib.Core.List.{List}
 use lib.ListN.{length, take, get_or}
 use lib.Seq.{take-take, get_or-take}
 use lib.Dec.{leb, ltb}
-use borrow.Author.Tests.{lt-ltb, le-ltb}
+use borrow.Author.Tests.{lt-ltb, ltb-true}
 use Rattle.lists.specs.Lists.{one, count, some_passes}
 use Rattle.lists.proofs.AllLaws.{all_weaken}
 use Rattle.lists.proofs.ListLaws.{one_true, passes_count}
@@ -35,7 +35,7 @@ use Rattle.replica.specs.internal.Model.{order_slots, order_of, board_of, plan_o
 use Rattle.replica.proofs.ModelLaws.{plan_sound, request_of, length-order, length-board, order-planned, executed_start, order_distinct}
 use Rattle.replica.proofs.RequestLaws.{by_slot, count_held}
 use Rattle.status.specs.Status.{StatusShown}
-use Rattle.status.specs.internal.Parts.{stand_before, refused_status}
+use Rattle.status.specs.internal.Place.{stand_before, refused_status}
 use Rattle.status.proofs.LeadingLaws.{first, first_inside, first_passes, first_start, response_first}
 
 module _ (p : State) (inv : Inv p) (n : Number) where
@@ -136,57 +136,38 @@ module _ (p : State) (inv : Inv p) (n : Number) where
 
       -- ---- the whole status, from one equation for each value that is computed
 
-      module _ {slot k : ℕ} {awaited : Bool} (of_number : slot ≡ slot_of n) (found : k ≡ stand_before slot (order_slots p))
-          (waits : awaited ≡ member p.awaiting n) where
+      module _ {slot k : ℕ} (of_number : slot ≡ slot_of n) (found : k ≡ stand_before slot (order_slots p)) where
         place_found : k ≡ behind
         place_found = found ∙ ap (λ (s : ℕ). stand_before s (order_slots p)) of_number ∙ before_is
 
         pub found_inside : k < p.ordered
         found_inside = omega (arith, place_found, before_inside, length-order p inv)
 
-        settled-found : ltb k p.committed ≡ status_settled (model p) n
-        settled-found = ap (λ (j : ℕ). ltb j p.committed) place_found ∙ sym settled_is
+        executed-found : ltb k p.executed ≡ status_executed (model p) n
+        executed-found = ap (λ (j : ℕ). ltb j p.executed) place_found ∙ sym executed_is
 
-        place-told : k + 1 ≡ status_place (model p) n
-        place-told = omega (arith, place_found, place_is)
-
-        pub status_unexecuted : p.executed ≤ k
+        pub status_held : {awaited : Bool} {response : ℕ} → awaited ≡ member p.awaiting n
+            → response ≡ cond (ltb k p.executed) (get_or p.responses k 0) 0
             → StatusShown p n (record {
-              response = 0;
+              response = response;
               place = k + 1;
               settled = ltb k p.committed;
               awaited = awaited;
-              executed = false;
+              executed = ltb k p.executed;
               refusal = refused.accepted;
             })
         unfolding status_response
-        status_unexecuted h =
-            let off : status_executed (model p) n ≡ false = executed_is ∙ le-ltb behind p.executed (omega (arith, place_found)) in
-            record {
-              refusal = sym (refusal_here true here);
-              place = place-told;
-              settled = settled-found;
-              awaited = waits ∙ sym awaited_is;
-              executed = sym off;
-              response = rw off;
-            }
-
-        pub status_executed_lem : k < p.executed
-            → StatusShown p n (record {
-              response = get_or p.responses k 0;
-              place = k + 1;
-              settled = ltb k p.committed;
-              awaited = awaited;
-              executed = true;
-              refusal = refused.accepted;
-            })
-        status_executed_lem h =
-            let done : behind < p.executed = omega (arith, place_found) in
-            record {
-              refusal = sym (refusal_here true here);
-              place = place-told;
-              settled = settled-found;
-              awaited = waits ∙ sym awaited_is;
-              executed = sym (executed_is ∙ lt-ltb _ _ done);
-              response = ap (λ (j : ℕ). get_or p.responses j 0) place_found ∙ sym (response_is done);
-            }
+        status_held {response = response} waits kept = record {
+          refusal = sym (refusal_here true here);
+          place = omega (arith, place_found, place_is);
+          settled = ap (λ (j : ℕ). ltb j p.committed) place_found ∙ sym settled_is;
+          awaited = waits ∙ sym awaited_is;
+          executed = executed-found;
+          response = go (ltb k p.executed) refl kept;
+        }
+          where
+            go : (b : Bool) → ltb k p.executed ≡ b → response ≡ cond b (get_or p.responses k 0) 0 → response ≡ status_response (model p) n
+            go true e r =
+                let done : behind < p.executed = omega (arith, place_found, ltb-true k p.executed e) in
+                r ∙ ap (λ (j : ℕ). get_or p.responses j 0) place_found ∙ sym (response_is done)
+            go false e r = rw (sym executed-found ∙ e) r

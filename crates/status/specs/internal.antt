@@ -1,2 +1,2 @@
--- What only functions over the parts of a panel and proofs cite.
-pub mod Parts
+-- What only the functions of the crate and proofs cite.
+pub mod Place

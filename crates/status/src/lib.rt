@@ -1,14 +1,18 @@
 // What a panel has of a request, by its number: its place, whether it is settled, awaited and executed, and with which response.
 //
-// The parts of a panel are lent as in `replica`. A request of the standing order is executed where fewer than `executed` stand before it, and
-// its response is then kept at its place.
+// A request of the standing order is executed where fewer than `executed` stand before it, and its response is then kept at its place.
 #![tactic(auto)]
 
-ghost use Rattle.std.specs.Prelude.{◌≡◌, take};
-ghost use Rattle.status.specs.internal.Parts.{stand_before, refused_status, BeforeAsks, StatusAsks, StatusKept};
+ghost use Rattle.std.specs.Prelude.{◌≡◌, ◌==◌, take, position};
+ghost use Rattle.request.specs.Refusal.{number_of};
+ghost use Rattle.replica.specs.Memory.{memory};
+ghost use Rattle.replica.specs.internal.Model.{Inv};
+ghost use Rattle.status.specs.Status.{StatusShown};
+ghost use Rattle.status.specs.internal.Place.{stand_before, refused_status, BeforeAsks};
 
 use numbers::Number;
-use request::refusal;
+use replica::Panel;
+use request::refusal::{self, Refusal};
 
 // The status of a request, or a refusal with zeros.
 #[repr(C)]
@@ -23,56 +27,32 @@ pub struct RequestStatus {
 }
 
 // The status of the request of number n.
-pub fn request_status<'a>(
-    panels: u8,
-    committed: usize,
-    ordered: usize,
-    executed: usize,
-    held: &'a [u64; 8],
-    awaiting: &'a [u64; 8],
-    order: &'a [u16; 512],
-    responses: &'a [u32; 512],
-    n: Number,
-) -> RequestStatus
-    requires { StatusAsks panels committed ordered executed held.now awaiting.now order.now responses.now }
-    ensures { StatusKept panels committed ordered executed
-        held.now awaiting.now order.now responses.now n result }
+pub fn request_status(p: &Panel, n: Number) -> RequestStatus
+    requires { Inv (memory p.now) }
+    ensures { StatusShown (memory p.now) n result }
 {
-    if numbers::bad(panels, n) {
-        return refusing(refusal::BAD_NUMBER);
+    if numbers::bad(p.panels, n) {
+        return refusing(Refusal::BadNumber);
     }
-    if !members::member(held, n) {
-        return refusing(refusal::NOT_HERE);
+    if !members::member(&p.held, n) {
+        return refusing(Refusal::NotHere);
     }
-    let slot = numbers::slot_of(n);
-    let before = before(order, ordered, slot);
-    let awaited = members::member(awaiting, n);
-    let settled = before < committed;
-    let place = before as u32 + 1;
-    if executed <= before {
-        return RequestStatus {
-            response: 0,
-            place,
-            settled,
-            awaited,
-            executed: false,
-            refusal: refusal::ACCEPTED,
-        };
-    }
-    let response = responses[before];
+    let before = before(&p.order, p.ordered, numbers::slot_of(n));
+    let executed = before < p.executed;
+    let response = if executed { p.responses[before] } else { 0 };
     RequestStatus {
         response,
-        place,
-        settled,
-        awaited,
-        executed: true,
+        place: before as u32 + 1,
+        settled: before < p.committed,
+        awaited: members::member(&p.awaiting, n),
+        executed,
         refusal: refusal::ACCEPTED,
     }
 }
 
 // A refusal with zeros.
-fn refusing(refusal: u8) -> RequestStatus
-    ensures { result ≡ refused_status refusal }
+fn refusing(refusal: Refusal) -> RequestStatus
+    ensures { result ≡ refused_status (number_of refusal) }
 {
     RequestStatus {
         response: 0,
@@ -80,8 +60,15 @@ fn refusing(refusal: u8) -> RequestStatus
         settled: false,
         awaited: false,
         executed: false,
-        refusal,
+        refusal: u8::from(refusal),
     }
+}
+
+// The first place of the slot in an order, counted from 0.
+fn place_in(order: &[u16], slot: u16) -> Option<usize>
+    ensures { result ≡ position (λ t. slot == t) order.now }
+{
+    order.iter().position(|t| slot == *t)
 }
 
 // How many of the first n of the order stand before the slot.
@@ -89,13 +76,5 @@ fn before(order: &[u16; 512], n: usize, slot: u16) -> usize
     requires { BeforeAsks order.now n }
     ensures { result ≡ stand_before slot (take n order.now) }
 {
-    let mut at = 0;
-    while at < n {
-        let t = order[at];
-        if slot == t {
-            return at;
-        }
-        at += 1;
-    }
-    at
+    place_in(&order[..n], slot).unwrap_or(n)
 }
