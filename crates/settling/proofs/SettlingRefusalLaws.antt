@@ -6,6 +6,8 @@ use mathlib.Core.Bool.{Bool, true, false, not, cond}
 use mathlib.Core.Option.{some}
 use lib.Dec.{eqb}
 use borrow.Author.Tests.{not-false}
+use Rattle.std.specs.Prelude.{if◌then◌else◌, Some, None}
+use Rattle.std.proofs.lemmas.Option.{same_Some, none-some}
 use Rattle.numbers.specs.declared.Number.{Number}
 use Rattle.numbers.specs.Numbers.{no_number, bad_number}
 use Rattle.numbers.specs.internal.Slots.{slot_of}
@@ -21,7 +23,7 @@ use Rattle.replica.specs.State.{State}
 use Rattle.store.specs.Requests.{request_at}
 use Rattle.replica.specs.Promises.{Kept}
 use Rattle.replica.specs.internal.Model.{plan_of, book_of, Inv}
-use Rattle.settling.specs.Settling.{early_refusal, waiting_answer}
+use Rattle.settling.specs.Settling.{early_refusal, missing_number}
 use Rattle.replica.proofs.KeptLaws.{kept-refused}
 use Rattle.settling.proofs.SettlingHeldLaws.{kept_at, strong_at, context_at, sound_plan, good_widened, HeldAt, held-request}
 use Rattle.replica.proofs.RequestLaws.{held_none}
@@ -90,32 +92,27 @@ module _ {p : State} {n : Number} {s : ℕ} (inv : Inv p) (h : HeldAt p n s) whe
   unfolding named_by_refusal request_at book_of plan_of
   names-missing e = rw e (ap (missing (plan_of p)) (held-request inv h))
 
-  module _ (strong : strong_at p s ≡ true) (new : member p.known n ≡ false) {a : Answer}
-      (answered : a ≡ waiting_answer (context_at p s) p.known) where
-    -- the refusal by the last test
-    refusal_waiting : refusal (book_of p) (commit n) ≡ word_of true false whole
-    refusal_waiting = refusal-held ∙ rw (strong, new)
-
-    pub kept_waiting : (a.refusal ≡ refused.accepted → ⊥) → Kept p (commit n) (record { answer = a; state = p })
-    unfolding waiting_answer
-    kept_waiting out = go whole answered refusal_waiting
+  module _ (strong : strong_at p s ≡ true) (new : member p.known n ≡ false) where
+    pub kept_waiting : {m : Number} → missing_number (context_at p s) p.known ≡ Some m
+        → Kept p (commit n) (record { answer = refused_with refused.waits m; state = p })
+    unfolding missing_number
+    kept_waiting {m} e = go whole (refusal-held ∙ rw (strong, new)) e
       where
-        go : (b : Bool) → a ≡ cond (not b) (refused_with refused.waits (lowest_lacking (context_at p s) p.known)) done
-            → refusal (book_of p) (commit n) ≡ word_of true false b → Kept p (commit n) (record { answer = a; state = p })
-        go false e r =
-            kept-refused p (commit n) refused.waits a inv r (λ z. out (ap (λ (b : Answer). b.refusal) e ∙ z))
-            (e ∙ ap (refused_with refused.waits) (sym (names-missing r)))
-        go true e r = absurd (out (ap (λ (b : Answer). b.refusal) e))
+        go : (b : Bool) → refusal (book_of p) (commit n) ≡ word_of true false b
+            → (if b then None else Some (lowest_lacking (context_at p s) p.known)) ≡ Some m
+            → Kept p (commit n) (record { answer = refused_with refused.waits m; state = p })
+        go false r f =
+            kept-refused p (commit n) refused.waits _ inv r (λ z. omega arith)
+            (ap (refused_with refused.waits) (sym (names-missing r ∙ same_Some _ _ f)))
+        go true r f = absurd (none-some _ f)
 
-    pub settles : a.refusal ≡ refused.accepted → Settles p n s
-    unfolding waiting_answer
-    settles z = go whole refl (ap (λ (b : Answer). b.refusal) (sym answered) ∙ z)
+    pub settles : missing_number (context_at p s) p.known ≡ None → Settles p n s
+    unfolding missing_number
+    settles e = go whole refl e
       where
-        go : (b : Bool) → subset (context_at p s) p.known ≡ b
-            → (cond (not b) (refused_with refused.waits (lowest_lacking (context_at p s) p.known)) done).refusal ≡ refused.accepted
-            → Settles p n s
-        go false ew e = absurd (omega arith)
-        go true ew e = record { strong = strong; new = new; whole = ew }
+        go : (b : Bool) → whole ≡ b → (if b then None else Some (lowest_lacking (context_at p s) p.known)) ≡ None → Settles p n s
+        go false w f = absurd (none-some _ (sym f))
+        go true w f = record { strong = strong; new = new; whole = w }
 
   -- ---- accepted
 

@@ -1,7 +1,5 @@
 // A held strong request is settled: it is committed, and with it, before it, the tentative requests that its context names. The refusals that
 // come before are in the crate `committing`.
-//
-// The numbers of a panel that are read are given, the counts that change and the arrays lent.
 #![tactic(auto)]
 
 ghost use Rattle.std.specs.Prelude.{◌≡◌};
@@ -9,90 +7,66 @@ ghost use Rattle.numbers.specs.internal.Slots.{slot_of};
 ghost use Rattle.sets.specs.Sets.{set_of};
 ghost use Rattle.slots.specs.Marks.{Marked};
 ghost use Rattle.request.specs.Refusal.{accepted};
+ghost use Rattle.creek.specs.Book.{commit};
 ghost use Rattle.creek.specs.Replies.{reply_answer};
-ghost use Rattle.settling.specs.Settling.{early_refusal, waiting_answer, agreed, settled_answer, MarkAsks};
-ghost use Rattle.settling.specs.Settling.{lent_now, lent_entry, lent_exit, CommitAsks, CommitKept};
+ghost use Rattle.replica.specs.Memory.{memory, Done};
+ghost use Rattle.replica.specs.internal.Model.{Inv};
+ghost use Rattle.settling.specs.Settling.{early_refusal, missing_number, agreed, settled_answer, MarkAsks};
 
 use creek::Reply;
 use creek::mark::{NOBODY, STABLE};
 use numbers::Number;
-use request::refusal;
+use replica::Panel;
+use request::refusal::{self, Refusal};
 use sets::Context;
 
-// The request of number n, which no test without its context refuses, is settled or waits; `panels`, `held` and `askings` stand for the
-// contract alone.
-pub fn settle<'a>(
-    panels: u8,
-    ordered: usize,
-    committed: &mut usize,
-    executed: &mut usize,
-    commits: &mut u32,
-    held: &'a [u64; 8],
-    known: &mut [u64; 8],
-    awaiting: &mut [u64; 8],
-    clocks: &'a [u32; 512],
-    askings: &'a [u64; 512],
-    contexts: &'a [u64; 4096],
-    order: &mut [u16; 512],
-    stack: &'a [u16; 512],
-    responses: &'a [u32; 512],
-    settled: &mut [u64; 8],
-    n: Number,
-) -> Reply
-    requires parts { CommitAsks panels ordered
-        (lent_now committed executed commits held known awaiting clocks askings contexts order stack responses settled) }
-    requires not_refused { early_refusal panels (set_of held.now) (set_of known.old) askings.now n ≡ accepted }
-    ensures { CommitKept panels ordered
-        (lent_entry committed executed commits held known awaiting clocks askings contexts order stack responses settled) n
-        (lent_exit committed executed commits held known awaiting clocks askings contexts order stack responses settled)
-        (reply_answer result) }
+// The request of number n, which no test without its context refuses, is settled or waits.
+pub fn settle(p: &mut Panel, n: Number) -> Reply
+    requires inv { Inv (memory p.old) }
+    requires not_refused { early_refusal p.old.panels (set_of p.old.held) (set_of p.old.known) p.old.askings n ≡ accepted }
+    ensures { Done p.old (commit n) (reply_answer result) p.new }
 {
     let slot = numbers::slot_of(n);
-    let context = store::context_at(contexts, slot as usize);
-    let knows = *known;
-    let waiting = waiting_reply(context, Context { words: knows });
-    if waiting.refusal != refusal::ACCEPTED {
-        return waiting;
+    let context = store::context_at(&p.contexts, slot as usize);
+    if let Some(number) = missing(context, Context { words: p.known }) {
+        return Reply {
+            response: 0,
+            number,
+            mark: NOBODY,
+            refusal: u8::from(Refusal::Waits),
+        };
     }
-    let from = *committed;
-    let before = *executed;
+    let from = p.committed;
+    let before = p.executed;
     let words = context.words;
-    let moved = slots::settle_moving(order, clocks, from, ordered, &words, settled, slot);
+    let moved = slots::settle_moving(&mut p.order, &p.clocks, from, p.ordered, &words, &p.settled, slot);
     let count = moved.committed;
-    mark(settled, &words, n);
+    mark(&mut p.settled, &words, n);
     // What is executed agrees with the order up to where the settlement changes it, and behind the last slot that it moves.
-    let same = replica::lower(before, from);
-    let last = replica::lower(before, moved.end);
-    let start = ordering::common_start(stack, last, order, ordered, same);
+    let same = before.min(from);
+    let last = before.min(moved.end);
+    let start = ordering::common_start(&p.stack, last, &p.order, p.ordered, same);
     let stays = agreed(before, last, start);
     // The request is the last committed: it stays executed where the mark lies behind it, and its response was kept at its place.
-    let response = responses[count - 1];
-    let awaited = members::member(awaiting, n);
-    let due = awaited & (count <= stays);
-    members::join(known, n);
+    let response = p.responses[count - 1];
+    let due = members::member(&p.awaiting, n) & (count <= stays);
+    members::join(&mut p.known, n);
     let reply = settled_reply(due, response);
-    replica::end_waiting(awaiting, n, reply.mark);
-    *committed = count;
-    *executed = stays;
-    let settlements = *commits;
-    *commits = settlements + 1;
+    replica::end_waiting(&mut p.awaiting, n, reply.mark);
+    p.committed = count;
+    p.executed = stays;
+    p.commits += 1;
     reply
 }
 
-// The reply that the settlement of a request with that context waits, with those numbers known, or no refusal.
-fn waiting_reply(context: Context, known: Context) -> Reply
-    ensures { reply_answer result ≡ waiting_answer context known }
+// The number that the settlement of a request with that context waits for, with those numbers known.
+fn missing(context: Context, known: Context) -> Option<Number>
+    ensures { result ≡ missing_number context known }
 {
-    if !sets::is_subset(context, known) {
-        let missing = sets::lowest_lacking(context, known);
-        return Reply {
-            response: 0,
-            number: missing,
-            mark: NOBODY,
-            refusal: refusal::WAITS,
-        };
+    if sets::is_subset(context, known) {
+        return None;
     }
-    replica::refusing(refusal::ACCEPTED)
+    Some(sets::lowest_lacking(context, known))
 }
 
 // Puts the number n, and with it those of its context, into the set of the numbers settled.
@@ -127,5 +101,5 @@ fn settled_reply(due: bool, response: u32) -> Reply
             refusal: refusal::ACCEPTED,
         };
     }
-    replica::refusing(refusal::ACCEPTED)
+    replica::told(Ok(()))
 }
