@@ -1,8 +1,7 @@
 -- A reader at the start of its run of bytes, the message at its place, and the reader behind it.
 use Rattle.std.specs.Prelude.{ℕ, ◌+◌, List}
 use Rattle.std.specs.Borrow.{Bor}
-use Rattle.wire.specs.declared.Reading.{Reading}
-use Rattle.wire.specs.Reader.{Outcome, answered, read_at}
+use Rattle.wire.specs.Reader.{Outcome, taken_of, read_at}
 use Rattle.bus.specs.declared.Reader.{Reader}
 
 -- a reader of this run of bytes, at its start
@@ -13,10 +12,6 @@ opened s = record { bytes = s; at = 0 }
 abbrev pub outcome : Reader → Outcome
 outcome r = read_at r.bytes.now r.at
 
--- the answer for it, with the bytes taken
-abbrev pub next_message : Reader → Reading
-next_message r = answered (outcome r)
-
 -- the same run of bytes, past the bytes taken
 abbrev pub advanced : Reader → Reader
-advanced r = record { bytes = r.bytes; at = r.at + (next_message r).taken }
+advanced r = record { bytes = r.bytes; at = r.at + taken_of (outcome r) }

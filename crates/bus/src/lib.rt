@@ -5,8 +5,10 @@
 #![tactic(auto)]
 
 ghost use Rattle.std.specs.Prelude.{◌≡◌};
-ghost use Rattle.bus.specs.Place.{opened, next_message, advanced};
+ghost use Rattle.bus.specs.Place.{opened, outcome, advanced};
+ghost use Rattle.wire.specs.Reader.{outcome_of};
 
+use request::refusal::Refusal;
 use wire::Reading;
 
 // A lent run of bytes and the place of the next message in it.
@@ -16,19 +18,22 @@ pub struct Reader<'a> {
     at: usize,
 }
 
-// A reader at the start of a run of bytes.
-pub fn open<'a>(bytes: &'a [u8]) -> Reader<'a>
-    ensures { result ≡ opened bytes.entry }
-{
-    Reader { bytes, at: 0 }
-}
+impl<'a> Reader<'a> {
+    // A reader at the start of a run of bytes.
+    pub fn new(bytes: &'a [u8]) -> Reader<'a>
+        ensures { result ≡ opened bytes.entry }
+    {
+        Reader { bytes, at: 0 }
+    }
 
-// The answer at the reader's place, which moves by the bytes taken: not at all for the end or a refusal.
-pub fn next_message<'s, 'a>(r: &'s mut Reader<'a>) -> Reading
-    ensures { (result ≡ next_message r.old) × (r.new ≡ advanced r.old) }
-{
-    let at = r.at;
-    let p = wire::read(r.bytes, at);
-    r.at = at + p.taken;
-    p
+    // The message at the reader's place, which moves by the bytes taken: not at all for the end or a refusal.
+    pub fn next_message(&mut self) -> Result<Option<Reading>, Refusal>
+        ensures { (outcome_of result ≡ outcome self.old) × (self.new ≡ advanced self.old) }
+    {
+        let read = wire::read(self.bytes, self.at);
+        if let Ok(Some(reading)) = read {
+            self.at += reading.taken;
+        }
+        read
+    }
 }
