@@ -1,19 +1,14 @@
-// Messages as C holds them: one read from bytes, and one written. The contracts are those of `wire`.
+// Messages as C holds them: one read from bytes, and one written. An enum, an Option and a Result do not cross to C, so a struct stands for
+// each: a flag or a number tells which it is. The contracts are those of `wire`.
 #![tactic(auto)]
 
 ghost use Rattle.std.specs.Prelude.{◌≡◌};
-ghost use Rattle.wire.specs.Message.{as_message};
-ghost use Rattle.wire.specs.Reader.{answered, read_at};
-ghost use Rattle.wire.specs.Head.{GoodHead, message_at};
-ghost use Rattle.wire.specs.Writer.{Wrote};
-ghost use Rattle.c_messages.specs.Messages.{subject_by, message_for, shown_for, read_from, unread as unread_by};
+ghost use Rattle.wire.specs.Reader.{read_at};
+ghost use Rattle.c_messages.specs.Messages.{message_for, shown_for, read_from, unread as unread_by, Wrote};
 
-use fields::reading;
 use request::{Request, refusal};
-use wire::{HeadAnswer, Kind, Subject, Written};
 
-// A message as C holds it: the request, or the settlement of its number, for which the other fields stand for nothing. An enum does not
-// cross to C.
+// A message as C holds it: the request, or the settlement of its number, for which the other fields stand for nothing.
 #[repr(C)]
 #[derive(Clone, Copy)]
 pub struct Message {
@@ -30,23 +25,57 @@ pub struct Reading {
     pub refusal: u8,
 }
 
+// The bytes written, and the refusal, or 0.
+#[repr(C)]
+#[derive(Clone, Copy)]
+pub struct Written {
+    pub bytes: usize,
+    pub refusal: u8,
+}
+
+// A message as C holds it.
+impl From<wire::Message> for Message {
+    ghost from_gives = { λ m shown. shown ≡ shown_for m };
+
+    fn from(m: wire::Message) -> Message {
+        match m {
+            wire::Message::Request(request) => Message {
+                request,
+                settles: false,
+            },
+            wire::Message::Settlement(number) => Message {
+                request: request::bare(number),
+                settles: true,
+            },
+        }
+    }
+}
+
+// The message that C holds.
+impl From<Message> for wire::Message {
+    ghost from_gives = { λ held m. m ≡ message_for held };
+
+    fn from(held: Message) -> wire::Message {
+        if held.settles {
+            wire::Message::Settlement(held.request.number)
+        } else {
+            wire::Message::Request(held.request)
+        }
+    }
+}
+
 // Reads the message at a place of `bytes`; at the end nothing is taken and nothing refused.
 pub fn read(bytes: &[u8], at: usize) -> Reading
-    ensures { result ≡ read_from (answered (read_at bytes.now at)) }
+    ensures { result ≡ read_from (read_at bytes.now at) }
 {
-    let head = wire::head_at(bytes, at);
-    let answer = head.answer;
-    match answer {
-        HeadAnswer::Good(kind) => {
-            let message = message_at(bytes, at, kind);
-            Reading {
-                refusal: refusal::ACCEPTED,
-                taken: head.taken,
-                message,
-            }
-        }
-        HeadAnswer::End => unread(refusal::ACCEPTED),
-        HeadAnswer::Refused(refusal) => unread(refusal),
+    match wire::read(bytes, at) {
+        Ok(Some(reading)) => Reading {
+            message: Message::from(reading.message),
+            taken: reading.taken,
+            refusal: refusal::ACCEPTED,
+        },
+        Ok(None) => unread(refusal::ACCEPTED),
+        Err(word) => unread(u8::from(word)),
     }
 }
 
@@ -54,42 +83,15 @@ pub fn read(bytes: &[u8], at: usize) -> Reading
 pub fn write(message: Message, out: &mut [u8]) -> Written
     ensures { Wrote (message_for message) out.old out.new result }
 {
-    let subject = subject_of(message.settles);
-    let request = message.request;
-    let m = wire::Message { subject, request };
-    writer::write(out, m)
-}
-
-// The message at a place with a good head of its kind, its fields straight from the bytes.
-fn message_at(s: &[u8], at: usize, kind: Kind) -> Message
-    requires { GoodHead kind s.now at }
-    ensures { result ≡ shown_for (as_message (message_at kind s.now at)) }
-{
-    match kind {
-        Kind::Weak => {
-            let context = sets::empty();
-            let request = reading::request_at(s, at, false, context);
-            Message {
-                settles: false,
-                request,
-            }
-        }
-        Kind::Strong => {
-            let context = reading::context_at(s, at);
-            let request = reading::request_at(s, at, true, context);
-            Message {
-                settles: false,
-                request,
-            }
-        }
-        Kind::Settlement => {
-            let number = reading::number_at(s, at);
-            let request = request::bare(number);
-            Message {
-                settles: true,
-                request,
-            }
-        }
+    match writer::write(out, wire::Message::from(message)) {
+        Ok(bytes) => Written {
+            bytes,
+            refusal: refusal::ACCEPTED,
+        },
+        Err(word) => Written {
+            bytes: 0,
+            refusal: u8::from(word),
+        },
     }
 }
 
@@ -97,24 +99,12 @@ fn message_at(s: &[u8], at: usize, kind: Kind) -> Message
 fn unread(refusal: u8) -> Reading
     ensures { result ≡ unread_by refusal }
 {
-    let request = request::none();
-    let message = Message {
-        settles: false,
-        request,
-    };
     Reading {
-        refusal,
+        message: Message {
+            request: request::none(),
+            settles: false,
+        },
         taken: 0,
-        message,
+        refusal,
     }
-}
-
-// The subject of a message that settles, or does not.
-fn subject_of(settles: bool) -> Subject
-    ensures { result ≡ subject_by settles }
-{
-    if settles {
-        return Subject::Settlement;
-    }
-    Subject::Request
 }
