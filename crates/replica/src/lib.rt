@@ -17,6 +17,7 @@ pub mod replies;
 pub mod showing;
 
 ghost use Rattle.std.specs.Prelude.{◌≡◌};
+ghost use Rattle.numbers.specs.Numbers.{panel_no};
 ghost use Rattle.creek.specs.Calls.{bad_shop};
 ghost use Rattle.replica.specs.State.{first_memory};
 ghost use Rattle.replica.specs.Promises.{Fresh};
@@ -82,11 +83,13 @@ struct Shop {
     own: PanelNo,
 }
 
+// The panel of a one-panel shop.
+const FIRST_PANEL: PanelNo = PanelNo(0);
+
 impl Panel {
-    // A panel of that shop at a shift's first moment: zeros in everything else.
-    pub fn zeros(panels: u8, own: PanelNo) -> Panel
-        ensures state { memory result ≡ first_memory panels own }
-        ensures spare { result.spare ≡ no_spare }
+    // Memory for a panel, all zeros, which is to be made one by fresh.
+    pub fn zeros() -> Panel
+        ensures { (memory result ≡ first_memory 0 (panel_no 0)) × (result.spare ≡ no_spare) }
     {
         Panel {
             committed: 0,
@@ -99,8 +102,8 @@ impl Panel {
                 undos: 0,
                 executions: 0,
             },
-            panels,
-            own,
+            panels: 0,
+            own: PanelNo(0),
             events: 0,
             spare: [0; 5],
             held: [0; 8],
@@ -164,7 +167,7 @@ fn shop_of(bad: bool, panels: u8, own: PanelNo) -> Shop
     if bad {
         return Shop {
             panels: 1,
-            own: PanelNo(0),
+            own: FIRST_PANEL,
         };
     }
     Shop { panels, own }

@@ -68,27 +68,30 @@ printout_good : (s : List ℕ) → shop_bytes ≤ length s → bad_shop (get_or 
 unfolding printout printout_of
 printout_good s h e = rw (le-ltb (length s) shop_bytes h, e)
 
-fresh_by : (panels own w : ℕ) (v : Bool) → bad_shop panels own ≡ v → w ≡ fresh_refusal panels own → (w ≡ refused_by.accepted → ⊥) → v ≡ true
+-- by the number of fresh's outcome
+fresh_by : (panels own w : ℕ) (v : Bool) → bad_shop panels own ≡ v → w ≡ fresh_refusal panels own → (w ≡ refused_by.accepted → ⊥)
+    → (v ≡ true) × (w ≡ refused_by.bad_shop)
 unfolding fresh_refusal
-fresh_by panels own w true e f h = refl
+fresh_by panels own w true e f h = (refl, f ∙ rw e)
 fresh_by panels own w false e f h = absurd (h (f ∙ rw e))
 
-pub fresh_bad : (panels own w : ℕ) → w ≡ fresh_refusal panels own → (w ≡ refused_by.accepted → ⊥) → bad_shop panels own ≡ true
+pub fresh_bad : (panels own w : ℕ) → w ≡ fresh_refusal panels own → (w ≡ refused_by.accepted → ⊥)
+    → (bad_shop panels own ≡ true) × (w ≡ refused_by.bad_shop)
 fresh_bad panels own w f h = fresh_by panels own w (bad_shop panels own) refl f h
 
-opened_by_lem : (panels own w : ℕ) (v : Bool) → bad_shop panels own ≡ v → w ≡ fresh_refusal panels own → w ≡ refused_by.accepted → v ≡ false
+opened_by_lem : (panels own : ℕ) (v : Bool) → bad_shop panels own ≡ v → refused_by.accepted ≡ fresh_refusal panels own → v ≡ false
 unfolding fresh_refusal
-opened_by_lem panels own w true e f h =
+opened_by_lem panels own true e f =
     let bad : fresh_refusal panels own ≡ refused_by.bad_shop = rw e in
-    absurd (omega (arith, f, h, bad))
-opened_by_lem panels own w false e f h = refl
+    absurd (omega (arith, f, bad))
+opened_by_lem panels own false e f = refl
 
-pub fresh_good : (panels own w : ℕ) → w ≡ fresh_refusal panels own → w ≡ refused_by.accepted → bad_shop panels own ≡ false
-fresh_good panels own w f h = opened_by_lem panels own w (bad_shop panels own) refl f h
+pub fresh_good : (panels own : ℕ) → refused_by.accepted ≡ fresh_refusal panels own → bad_shop panels own ≡ false
+fresh_good panels own f = opened_by_lem panels own (bad_shop panels own) refl f
 
 -- the lines of a shift, from those of its messages and the closing lines
 pub shift_put : {s out out₁ out₂ : List ℕ} {at at₁ at₂ : ℕ} {p q : State} → AllPut p s out at q out₁ at₁
-    → ClosingPut q.committed q.ordered q.counters.undos q.counters.executions q.registers out₁ at₁ out₂ at₂
+    → ClosingPut q out₁ at₁ out₂ at₂
     → Placed out at (message_lines 1 (model p) (found_from s shop_bytes) ++ closing (after_all (model p) (found_from s shop_bytes))) out₂ at₂
 shift_put {out₁ = out₁} {out₂ = out₂} {at₁ = at₁} {at₂ = at₂} {q = q} put last =
     let closes = sym (closing_is q put.invariant) ∙ ap closing put.state in

@@ -1,36 +1,32 @@
 -- What the functions that put the printout ask of and promise each other; what `print` promises is `Printed` of `printed`.
 use Rattle.std.specs.Prelude.{ℕ, suc, ◌+◌, ◌-◌, ◌*◌, ◌≤◌, ◌≡◌, List, ◌++◌, length}
-use Rattle.numbers.specs.declared.PanelNo.{PanelNo}
-use Rattle.request.specs.Operations.{last_register}
 use Rattle.text.specs.Placed.{Placed}
 use Rattle.report.specs.Lines.{totals_line, register_lines}
 use Rattle.report.specs.Sizes.{most_message_bytes, most_totals_bytes, most_registers_bytes}
-use Rattle.creek.specs.internal.Sound.{most_requests}
-use Rattle.replica.specs.State.{first_memory}
+use Rattle.replica.specs.State.{State}
 use Rattle.replica.specs.internal.Model.{model}
 use Rattle.runs.specs.Found.{found_from}
 use Rattle.printed.specs.Printout.{shop_bytes, most_messages, most_printed, after_all, message_lines, closing, printout}
 
--- the counts of a panel's order and its registers, as the closing lines have room for them
-pub record ClosingAsks (committed ordered : ℕ) (registers : List ℕ) : Type 0 where
-  pub within : committed ≤ ordered
-  pub few : ordered ≤ most_requests
-  pub all : length registers ≡ suc last_register
+-- the registers' lines were put
+pub record RegistersPut (registers out : List ℕ) (at : ℕ) (out' : List ℕ) (behind : ℕ) : Type 0 where
+  pub written : Placed out at (register_lines registers) out' behind
+  pub few : behind ≤ at + most_registers_bytes
 
--- the list lengths, the step totals and the registers were put
-pub record ClosingPut (committed ordered undos executions : ℕ) (registers out : List ℕ) (at : ℕ) (out' : List ℕ) (behind : ℕ) : Type 0 where
-  pub written : Placed out at (totals_line committed (ordered - committed) undos executions ++ register_lines registers) out' behind
+-- the list lengths, the step totals and the registers of p were put
+pub record ClosingPut (p : State) (out : List ℕ) (at : ℕ) (out' : List ℕ) (behind : ℕ) : Type 0 where
+  pub written : Placed out at (totals_line p.committed (p.ordered - p.committed) p.counters.undos p.counters.executions
+      ++ register_lines p.registers) out' behind
   pub few : behind ≤ at + most_totals_bytes + most_registers_bytes
 
 -- the most bytes of the lines of a shift
 abbrev pub most_shift_bytes : ℕ
 most_shift_bytes = most_messages * most_message_bytes + most_totals_bytes + most_registers_bytes
 
--- the lines of a shift of that shop and own number, which begins with a memory of zeros, were put: those of what is found in s, and the
--- closing lines
-pub record ShiftPut (panels : ℕ) (own : PanelNo) (s out : List ℕ) (at : ℕ) (out' : List ℕ) (behind : ℕ) : Type 0 where
-  pub written : Placed out at (message_lines 1 (model (first_memory panels own)) (found_from s shop_bytes)
-      ++ closing (after_all (model (first_memory panels own)) (found_from s shop_bytes))) out' behind
+-- the lines of a shift that begins with p were put: those of what is found in s, and the closing lines
+pub record ShiftPut (p : State) (s out : List ℕ) (at : ℕ) (out' : List ℕ) (behind : ℕ) : Type 0 where
+  pub written : Placed out at (message_lines 1 (model p) (found_from s shop_bytes)
+      ++ closing (after_all (model p) (found_from s shop_bytes))) out' behind
   pub few : behind ≤ at + most_shift_bytes
 
 -- the printout of all the input's bytes stands at the front

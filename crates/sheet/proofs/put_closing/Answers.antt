@@ -3,19 +3,19 @@ use Prim.Native.Nat.{◌-◌, ◌<◌, ◌≤◌, ◌^◌}
 use native.Mathlib.Omega.{arith}
 use lib.ListN.{length}
 use Rattle.text.proofs.PlacedLaws.{then, same_size}
-use Rattle.report.specs.Lines.{totals_line, register_lines}
-use Rattle.report.specs.Sizes.{most_totals_bytes, most_registers_bytes}
-use Rattle.report.proofs.SizeLaws.{totals_short, registers_short}
-use borrow.Author.Rules.{rules}
+use Rattle.report.specs.Lines.{totals_line}
+use Rattle.report.specs.Sizes.{most_totals_bytes}
+use Rattle.report.proofs.SizeLaws.{totals_short}
+use Rattle.replica.proofs.BoundLaws.{undos_fit, executions_fit}
+use Rattle.sheet.proofs.PuttingLaws.{registers_all}
 use Rattle.sheet.proofs.put_closing.Goals as goal
 use Rattle.sheet.proofs.put_closing.Goals.{Start}
 
-totals_fit : (c : Start) → let a = c.args in
-    length (totals_line a.committed (a.ordered - a.committed) a.undos a.executions) ≤ most_totals_bytes
+totals_fit : (c : Start) → let p = c.args.p.now in
+    length (totals_line p.committed (p.ordered - p.committed) p.counters.undos p.counters.executions) ≤ most_totals_bytes
 totals_fit c =
-    let undone : c.args.undos < 2 ^ 32 = search rules in
-    let carried : c.args.executions < 2 ^ 32 = search rules in
-    totals_short _ _ _ _ (omega arith) (omega arith) undone carried
+    let inv = c.requires.inv in
+    totals_short _ _ _ _ (omega (arith, inv.counts)) (omega (arith, inv.counts)) (omega (arith, undos_fit _ inv)) (omega (arith, executions_fit _ inv))
 
 pub put_totals-registers_at-requires : goal.put_totals-registers_at-requires
 put_totals-registers_at-requires c =
@@ -24,13 +24,14 @@ put_totals-registers_at-requires c =
 pub put_registers-requires : goal.put_registers-requires
 put_registers-requires c =
     let first = c.put_totals-registers_at.ensures in
-    let registers_fit = registers_short _ c.requires.closing_asks.all (λ k. omega (arith, c.type_inv.registers k)) in
     let totals = totals_fit (goal.at.put_registers-requires c).Start in
-    record { fits = omega (arith, c.requires.most_registers_bytes_in_bounds, first.place, same_size first, totals, registers_fit) }
+    record {
+      all = registers_all _ c.requires.inv;
+      most_registers_bytes_in_bounds = omega (arith, c.requires.most_registers_bytes_in_bounds, first.place, same_size first, totals);
+    }
 
 pub returns : goal.returns
 returns c =
     let first = c.put_totals-registers_at.ensures in
     let second = c.put_registers.ensures in
-    let registers_fit = registers_short _ c.requires.closing_asks.all (λ k. omega (arith, c.type_inv.registers k)) in
-    record { written = then first second; few = omega (arith, first.place, second.place, totals_fit (goal.at.returns c).Start, registers_fit) }
+    record { written = then first second.written; few = omega (arith, first.place, second.few, totals_fit (goal.at.returns c).Start) }

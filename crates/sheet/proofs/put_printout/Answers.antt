@@ -1,42 +1,52 @@
 -- `put_printout` meets its contract.
 use Prim.Native.Nat.{ℕ, ◌≤◌}
 use native.Mathlib.Omega.{arith}
-use mathlib.Core.Path.{sym, ◌∙◌}
+use mathlib.Core.Path.{◌≡◌, sym, ap, ◌∙◌}
+use mathlib.Core.Bool.{true}
 use mathlib.Core.List.{List}
 use lib.ListN.{length, get_or}
 use Rattle.request.specs.Refusal as refusal
+use Rattle.request.specs.Refusal.{outcome_number}
+use Rattle.request.proofs.RefusalLaws.{refuses}
+use Rattle.creek.specs.Calls.{bad_shop}
 use Rattle.text.proofs.PlacedLaws.{same_size}
 use Rattle.report.specs.Lines.{board_line}
 use Rattle.report.specs.Sizes.{most_board_bytes}
 use Rattle.report.proofs.SizeLaws.{board_short, refused_short}
 use Rattle.sheet.proofs.PuttingLaws.{printout_short, printout_bad, fresh_bad, fresh_good, printed}
 use Rattle.sheet.proofs.put_printout.Goals as goal
-use Rattle.sheet.proofs.put_printout.Goals.{Else-input-lt-SHOP_BYTES}
+use Rattle.sheet.proofs.put_printout.Goals.{Else-input-lt-SHOP_BYTES, In-Err}
 
 -- ---- what cannot be opened
 
 pub put_refused-requires : goal.put_refused-requires
 put_refused-requires c =
-    record { fits = omega (arith, c.requires.most_printed_in_bounds, refused_short refusal.cut_short (omega arith)) }
+    record { fits = rw c.from.ensures (omega (arith, c.requires.most_printed_in_bounds, refused_short refusal.cut_short (omega arith))) }
 
 pub returns-then-input-lt-SHOP_BYTES : goal.returns-then-input-lt-SHOP_BYTES
 returns-then-input-lt-SHOP_BYTES c =
-    let w = c.put_refused.ensures in
+    let w = rw c.from.ensures at c.put_refused.ensures in
     record {
       written = rw (printout_short _ c.if-input-lt-SHOP_BYTES.true) w;
       few = omega (arith, w.place, refused_short refusal.cut_short (omega arith));
     }
 
-pub put_refused-requires-then-shop-ne-ACCEPTED : goal.put_refused-requires-then-shop-ne-ACCEPTED
-put_refused-requires-then-shop-ne-ACCEPTED c =
-    record { fits = omega (arith, c.requires.most_printed_in_bounds, refused_short refusal.bad_shop (omega arith)) }
+-- the shop is bad, and its refusal is told
+refused_shop : (c : In-Err) → let bytes = c.args.input.now in
+    (bad_shop (get_or bytes 0 0) (get_or bytes 1 0) ≡ true) × (refusal.number_of c.in-Err.w ≡ refusal.bad_shop)
+refused_shop c = fresh_bad _ _ _ c.in-Err.ensures.0.refusal (refuses c.in-Err.w)
 
-pub returns-then-shop-ne-ACCEPTED : goal.returns-then-shop-ne-ACCEPTED
-returns-then-shop-ne-ACCEPTED c =
-    let w = c.put_refused-then-shop-ne-ACCEPTED.ensures in
-    let is = fresh_bad _ _ _ c.shop_of-shop.ensures.refusal c.if-shop-ne-ACCEPTED.true in
+pub put_refused-requires-in-Err : goal.put_refused-requires-in-Err
+put_refused-requires-in-Err c =
+    let told = (refused_shop (goal.at.put_refused-requires-in-Err c).In-Err).1 in
+    record { fits = rw (c.from-in-Err.ensures, told) (omega (arith, c.requires.most_printed_in_bounds, refused_short refusal.bad_shop (omega arith))) }
+
+pub returns-in-Err : goal.returns-in-Err
+returns-in-Err c =
+    let bad = refused_shop (goal.at.returns-in-Err c).In-Err in
+    let w = rw (c.from-in-Err.ensures, bad.1) at c.put_refused-in-Err.ensures in
     record {
-      written = rw (printout_bad _ c.if-input-lt-SHOP_BYTES.false is) w;
+      written = rw (printout_bad _ c.if-input-lt-SHOP_BYTES.false bad.0) w;
       few = omega (arith, w.place, refused_short refusal.bad_shop (omega arith));
     }
 
@@ -59,7 +69,7 @@ put_shift-requires c =
     let w = c.put_board-at.ensures in
     let fits = board_fits (goal.at.put_shift-requires c).Else-input-lt-SHOP_BYTES in
     record {
-      inv = c.shop_of-shop.ensures.invariant;
+      inv = c.fresh.ensures.0.invariant;
       shop_bytes_in_bounds = c.if-input-lt-SHOP_BYTES.false;
       input_len_bound = c.requires.input_len_bound;
       most_shift_bytes_in_bounds = omega (arith, c.requires.most_printed_in_bounds, w.place, same_size w, fits);
@@ -72,9 +82,9 @@ pub returns : goal.returns
 returns c =
     let z = c.put_shift.ensures in
     let w = c.put_board-at.ensures in
-    let f = c.shop_of-shop.ensures in
+    let f = c.fresh.ensures.0 in
     let long = c.if-input-lt-SHOP_BYTES.false in
-    let good = fresh_good _ _ _ f.refusal c.if-shop-ne-ACCEPTED.false in
+    let good = fresh_good _ _ (sym (ap outcome_number c.in_default.is) ∙ f.refusal) in
     record {
       written = printed _ long good f.state w z.written;
       few = omega (arith, w.place, board_fits (goal.at.returns c).Else-input-lt-SHOP_BYTES, z.few);

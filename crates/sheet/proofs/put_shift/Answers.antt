@@ -2,7 +2,7 @@
 use native.Mathlib.Omega.{arith}
 use mathlib.Core.Path.{sym, ◌∙◌}
 use Rattle.text.proofs.PlacedLaws.{same_size}
-use Rattle.sheet.proofs.PuttingLaws.{registers_all, shift_put}
+use Rattle.sheet.proofs.PuttingLaws.{shift_put}
 use Rattle.sheet.proofs.put_shift.Goals as goal
 
 pub put_messages-closing_at-requires : goal.put_messages-closing_at-requires
@@ -17,7 +17,7 @@ pub put_closing-requires : goal.put_closing-requires
 put_closing-requires c =
     let m = c.put_messages-closing_at.ensures in
     record {
-      closing_asks = record { within = m.invariant.counts.committed; few = m.invariant.counts.ordered; all = registers_all _ m.invariant };
+      inv = m.invariant;
       most_registers_bytes_in_bounds = omega (arith, c.requires.most_shift_bytes_in_bounds, m.few, same_size m.lines);
     }
 
