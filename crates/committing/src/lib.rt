@@ -1,116 +1,51 @@
 // The call by which a held strong request is settled, commit: it is refused where that needs no context, else settled.
-//
-// It is given the numbers of a panel that it reads, and lent the counts that it changes and the arrays that it uses.
 #![tactic(auto)]
 
 ghost use Rattle.std.specs.Prelude.{◌≡◌, ◌≤◌};
 ghost use Rattle.numbers.specs.Numbers.{most_panels};
 ghost use Rattle.sets.specs.Sets.{set_of};
+ghost use Rattle.request.specs.Refusal.{outcome_number};
+ghost use Rattle.creek.specs.Book.{commit as commit_call};
 ghost use Rattle.creek.specs.Replies.{reply_answer};
+ghost use Rattle.replica.specs.Memory.{memory, Done};
+ghost use Rattle.replica.specs.internal.Model.{Inv};
 ghost use Rattle.settling.specs.Settling.{early_refusal};
-ghost use Rattle.settling.specs.Settling.{lent_now, lent_entry, lent_exit, CommitAsks, CommitKept};
 
-use creek::{Answer, Reply};
+use creek::Reply;
 use numbers::Number;
-use request::refusal;
+use replica::Panel;
+use request::refusal::Refusal;
 
 // Settle the request of number n; what is refused without its context costs no call of `settling::settle`.
-pub fn commit<'a>(
-    panels: u8,
-    ordered: usize,
-    committed: &mut usize,
-    executed: &mut usize,
-    commits: &mut u32,
-    held: &'a [u64; 8],
-    known: &mut [u64; 8],
-    awaiting: &mut [u64; 8],
-    clocks: &'a [u32; 512],
-    askings: &'a [u64; 512],
-    contexts: &'a [u64; 4096],
-    order: &mut [u16; 512],
-    stack: &'a [u16; 512],
-    responses: &'a [u32; 512],
-    settled: &mut [u64; 8],
-    n: Number,
-) -> Reply
-    requires { CommitAsks panels ordered
-        (lent_now committed executed commits held known awaiting clocks askings contexts order stack responses settled) }
-    ensures { CommitKept panels ordered
-        (lent_entry committed executed commits held known awaiting clocks askings contexts order stack responses settled) n
-        (lent_exit committed executed commits held known awaiting clocks askings contexts order stack responses settled)
-        (reply_answer result) }
+pub fn commit(p: &mut Panel, n: Number) -> Reply
+    requires { Inv (memory p.old) }
+    ensures { Done p.old (commit_call n) (reply_answer result) p.new }
 {
-    let refusal = early_refusal(panels, held, known, askings, n);
-    if refusal != refusal::ACCEPTED {
-        return replica::refusing(refusal);
+    if let Err(refusal) = early_refusal(p, n) {
+        return replica::told(Err(refusal));
     }
-    settling::settle(
-        panels, ordered, committed, executed, commits, held, known, awaiting, clocks, askings,
-        contexts, order, stack, responses, settled, n,
-    )
+    settling::settle(p, n)
 }
 
-// The same, with its answer.
-pub fn commit_answer<'a>(
-    panels: u8,
-    ordered: usize,
-    committed: &mut usize,
-    executed: &mut usize,
-    commits: &mut u32,
-    held: &'a [u64; 8],
-    known: &mut [u64; 8],
-    awaiting: &mut [u64; 8],
-    clocks: &'a [u32; 512],
-    askings: &'a [u64; 512],
-    contexts: &'a [u64; 4096],
-    order: &mut [u16; 512],
-    stack: &'a [u16; 512],
-    responses: &'a [u32; 512],
-    settled: &mut [u64; 8],
-    n: Number,
-) -> Answer
-    requires { CommitAsks panels ordered
-        (lent_now committed executed commits held known awaiting clocks askings contexts order stack responses settled) }
-    ensures { CommitKept panels ordered
-        (lent_entry committed executed commits held known awaiting clocks askings contexts order stack responses settled) n
-        (lent_exit committed executed commits held known awaiting clocks askings contexts order stack responses settled) result }
+// The refusal of a settlement that needs no context, if there is one: bad number, not here, weak, settled already.
+fn early_refusal(p: &Panel, n: Number) -> Result<(), Refusal>
+    requires { p.now.panels ≤ most_panels }
+    ensures { outcome_number result ≡ early_refusal p.now.panels (set_of p.now.held) (set_of p.now.known) p.now.askings n }
 {
-    let refusal = early_refusal(panels, held, known, askings, n);
-    if refusal != refusal::ACCEPTED {
-        return replica::refused(refusal);
+    if numbers::bad(p.panels, n) {
+        return Err(Refusal::BadNumber);
     }
-    let reply = settling::settle(
-        panels, ordered, committed, executed, commits, held, known, awaiting, clocks, askings,
-        contexts, order, stack, responses, settled, n,
-    );
-    replica::answer_of(reply)
-}
-
-// The refusal of a settlement that needs no context, or none: bad number, not here, weak, settled already.
-fn early_refusal<'a>(
-    panels: u8,
-    held: &'a [u64; 8],
-    known: &'a [u64; 8],
-    askings: &'a [u64; 512],
-    n: Number,
-) -> u8
-    requires { panels ≤ most_panels }
-    ensures { result ≡ early_refusal panels (set_of held.now) (set_of known.now) askings.now n }
-{
-    if numbers::bad(panels, n) {
-        return refusal::BAD_NUMBER;
-    }
-    if !members::member(held, n) {
-        return refusal::NOT_HERE;
+    if !members::member(&p.held, n) {
+        return Err(Refusal::NotHere);
     }
     let slot = numbers::slot_of(n);
-    let asked = store::asked_at(askings, slot as usize);
+    let asked = store::asked_at(&p.askings, slot as usize);
     if !asked.strong {
-        return refusal::WEAK;
+        return Err(Refusal::Weak);
     }
     // A held strong request is known exactly where it is committed.
-    if members::member(known, n) {
-        return refusal::SETTLED_ALREADY;
+    if members::member(&p.known, n) {
+        return Err(Refusal::SettledAlready);
     }
-    refusal::ACCEPTED
+    Ok(())
 }

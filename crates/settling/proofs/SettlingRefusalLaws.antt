@@ -13,6 +13,8 @@ use Rattle.numbers.specs.Numbers.{no_number, bad_number}
 use Rattle.numbers.specs.internal.Slots.{slot_of}
 use Rattle.sets.specs.Sets.{member, subset, lowest_lacking}
 use Rattle.request.specs.Refusal as refused
+use Rattle.request.specs.declared.refusal.Refusal.{Refusal}
+use Rattle.request.specs.declared.refusal.Refusal.TheVariants as Word
 use Rattle.lists.specs.Lists.{find}
 use Rattle.creek.specs.declared.Answer.{Answer}
 use Rattle.creek.specs.Plan.{met, has_number, held, is_committed, found_refusal, commit_refusal}
@@ -127,6 +129,29 @@ module _ {p : State} {n : Number} {s : ℕ} (inv : Inv p) (h : HeldAt p n s) whe
         found_tentative (plan_of p) (sound_plan inv) n (kept_at p s) (held-request inv h) t.strong (committed_known t.strong ∙ t.new)
 
 -- ---- the early refusals
+
+-- a refusal is not accepted
+pub refuses : (w : Refusal) → refused.number_of w ≡ refused.accepted → ⊥
+refuses Word.BadShop e = omega arith
+refuses Word.BadNumber e = omega arith
+refuses Word.BadOperation e = omega arith
+refuses Word.OwnEcho e = omega arith
+refuses Word.ShiftFull e = omega arith
+refuses Word.HeldAlready e = omega arith
+refuses Word.NumberClash e = omega arith
+refuses Word.NotHere e = omega arith
+refuses Word.Weak e = omega arith
+refuses Word.SettledAlready e = omega arith
+refuses Word.Waits e = omega arith
+refuses Word.NothingToUndo e = omega arith
+refuses Word.UndoFirst e = omega arith
+refuses Word.NothingToDo e = omega arith
+refuses Word.CutShort e = omega arith
+refuses Word.BadLength e = omega arith
+refuses Word.UnknownKind e = omega arith
+refuses Word.SpareSet e = omega arith
+refuses Word.NoRoom e = omega arith
+refuses Word.BadContext e = omega arith
 
 module _ {p : State} {n : Number} (inv : Inv p) where
   pub kept_early : {word : ℕ} {a : Answer} → word ≡ early_refusal p.panels p.held p.known p.askings n

@@ -13,7 +13,7 @@ use Rattle.committing.proofs.early_refusal.Goals.{After-asked_at-asked}
 
 -- the strength that is read is that of what is asked for at the number's slot
 strength : (c : After-asked_at-asked)
-    → c.asked_at-asked.result.strong ≡ (asked_in (get_or c.args.askings.now (slot_of c.args.n) 0)).strong
+    → c.asked_at-asked.result.strong ≡ (asked_in (get_or c.args.p.now.askings (slot_of c.args.n) 0)).strong
 strength c = ap (λ (x : Asked). x.strong) c.asked_at-asked.ensures ∙ rw c.slot_of-slot.ensures
 
 pub returns-then-bad : goal.returns-then-bad
@@ -26,7 +26,7 @@ returns-then-not-member c = rw (sym c.bad.ensures ∙ c.if-bad.false, sym c.memb
 
 pub asked_at-asked-requires : goal.asked_at-asked-requires
 asked_at-asked-requires c =
-    let good = good-number c.args.panels c.args.n (sym c.bad.ensures ∙ c.if-bad.false) in
+    let good = good-number c.args.p.now.panels c.args.n (sym c.bad.ensures ∙ c.if-bad.false) in
     rw c.slot_of-slot.ensures (slot_fits c.args.n (widened c.requires good))
 
 pub returns-then-not-asked : goal.returns-then-not-asked
