@@ -15,7 +15,7 @@ use Rattle.replica.specs.Memory.{memory, SameSpare}
 use Rattle.replica.specs.internal.Model.{Inv}
 use Rattle.board.specs.Board.{TopAsks, rolled_back, TakenOff}
 use Rattle.due.specs.declared.DueSteps.{DueSteps}
-use Rattle.due.specs.Due.{DueOutcome, no_reply, most_replies, ran, RunDue}
+use Rattle.due.specs.Due.{no_reply, most_replies, ran, RunDue}
 use Rattle.due.specs.internal.Job.{RolledBack, ExecutedAll}
 use Rattle.replica.proofs.BoundLaws.{undos_fit, executions_fit}
 use Rattle.replica.proofs.ModelLaws.{top_slot_lem, next_slot_lem}
@@ -230,6 +230,6 @@ pub all_due_is : {p q z : Panel} {undos : ℕ} {r : DueSteps} → Inv (memory p)
     → RunDue (memory p) (ran r (memory z)) × SameSpare p z
 all_due_is {p} {q} {z} {r = r} inv back is all = (
   run_through (memory p) (memory q) (ran r (memory z)) inv back.0
-  (subst (λ (n : ℕ). ExecutedAll (memory q) n (ran r (memory z))) is all.0),
+      (subst (λ (n : ℕ). ExecutedAll (memory q) n (ran r (memory z))) is all.0),
   all.1 ∙ back.1,
 )

@@ -2,7 +2,7 @@
 use Prim.Native.Nat.{ℕ}
 use native.Mathlib.Omega.{arith}
 use mathlib.Core.Path.{◌≡◌, refl, sym, ap, ◌∙◌}
-use mathlib.Core.Bool.{Bool, true, false, not, cond}
+use mathlib.Core.Bool.{Bool, true, false, not}
 use mathlib.Core.Option.{some}
 use lib.Dec.{eqb}
 use borrow.Author.Tests.{not-false}
@@ -19,7 +19,7 @@ use Rattle.lists.specs.Lists.{find}
 use Rattle.creek.specs.declared.Answer.{Answer}
 use Rattle.creek.specs.Plan.{met, has_number, held, is_committed, found_refusal, commit_refusal}
 use Rattle.creek.specs.Book.{commit, refusal}
-use Rattle.creek.specs.Replies.{done, refused_with, missing, named_by_refusal}
+use Rattle.creek.specs.Replies.{refused_with, missing, named_by_refusal}
 use Rattle.creek.proofs.AcceptanceLaws.{passed}
 use Rattle.replica.specs.State.{State}
 use Rattle.store.specs.Requests.{request_at}

@@ -6,9 +6,9 @@ ghost use Rattle.std.specs.Prelude.{◌≡◌};
 ghost use Rattle.numbers.specs.internal.Slots.{slot_of};
 ghost use Rattle.sets.specs.Sets.{set_of};
 ghost use Rattle.slots.specs.Marks.{Marked};
-ghost use Rattle.request.specs.Refusal.{accepted};
+ghost use Rattle.request.specs.Refusal.{accepted, waits};
 ghost use Rattle.creek.specs.Book.{commit};
-ghost use Rattle.creek.specs.Replies.{reply_answer};
+ghost use Rattle.creek.specs.Replies.{reply_answer, refused_with};
 ghost use Rattle.replica.specs.Memory.{memory, Done};
 ghost use Rattle.replica.specs.internal.Model.{Inv};
 ghost use Rattle.settling.specs.Settling.{early_refusal, missing_number, agreed, settled_answer, MarkAsks};
@@ -29,17 +29,20 @@ pub fn settle(p: &mut Panel, n: Number) -> Reply
     let slot = numbers::slot_of(n);
     let context = store::context_at(&p.contexts, slot as usize);
     if let Some(number) = missing(context, Context { words: p.known }) {
-        return Reply {
-            response: 0,
-            number,
-            mark: NOBODY,
-            refusal: u8::from(Refusal::Waits),
-        };
+        return waiting(number);
     }
     let from = p.committed;
     let before = p.executed;
     let words = context.words;
-    let moved = slots::settle_moving(&mut p.order, &p.clocks, from, p.ordered, &words, &p.settled, slot);
+    let moved = slots::settle_moving(
+        &mut p.order,
+        &p.clocks,
+        from,
+        p.ordered,
+        &words,
+        &p.settled,
+        slot,
+    );
     let count = moved.committed;
     mark(&mut p.settled, &words, n);
     // What is executed agrees with the order up to where the settlement changes it, and behind the last slot that it moves.
@@ -67,6 +70,18 @@ fn missing(context: Context, known: Context) -> Option<Number>
         return None;
     }
     Some(sets::lowest_lacking(context, known))
+}
+
+// The reply of a settlement that waits for that number.
+fn waiting(number: Number) -> Reply
+    ensures { reply_answer result ≡ refused_with waits number }
+{
+    Reply {
+        response: 0,
+        number,
+        mark: NOBODY,
+        refusal: u8::from(Refusal::Waits),
+    }
 }
 
 // Puts the number n, and with it those of its context, into the set of the numbers settled.

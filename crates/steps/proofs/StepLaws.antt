@@ -18,7 +18,7 @@ use Rattle.effects.specs.Effect.{Executed}
 use Rattle.registers.specs.Rollback.{saved_of, saved_in, SavedAs}
 use Rattle.store.specs.Requests.{asked_in}
 use Rattle.creek.specs.declared.Reply.{Reply}
-use Rattle.creek.specs.Book.{Call, undo, execute, refusal}
+use Rattle.creek.specs.Book.{undo, execute, refusal}
 use Rattle.creek.specs.Replies.{no_mark, refused_with, reply, reply_answer, reply_in, named_by_refusal}
 use Rattle.replica.specs.State.{State}
 use Rattle.replica.specs.declared.Panel.{Panel}

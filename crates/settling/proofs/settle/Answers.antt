@@ -13,7 +13,7 @@ use Rattle.replica.specs.State.{State}
 use Rattle.replica.specs.Memory.{memory}
 use Rattle.settling.specs.Settling.{missing_number}
 use Rattle.settling.proofs.SettlingHeldLaws.{HeldAt, held_slot, good_widened}
-use Rattle.settling.proofs.SettlingRefusalLaws.{Judged, Settles, early-passed, kept_waiting, settles}
+use Rattle.settling.proofs.SettlingRefusalLaws.{Judged, early-passed, kept_waiting, settles}
 use Rattle.settling.proofs.SettlingLaws.{commits_fit, moves_asks, settled-kept}
 use Rattle.settling.proofs.settle.Goals as goal
 use Rattle.settling.proofs.settle.Goals.{After-missing, After-settle_moving-moved, After-slot_of-slot}
@@ -50,7 +50,7 @@ returns-in-Some c =
     let judged = judged_at at.After-slot_of-slot in
     record {
       kept =
-          rw c.from.ensures
+          rw c.waiting.ensures
           (kept_waiting {p = memory c.args.p.now} c.requires.inv judged.held_at judged.strong judged.new
           (missing_is at.After-missing ∙ c.in-Some.is));
       spare = refl;

@@ -3,7 +3,7 @@ use mathlib.Core.Path.{sym, ap, ◌∙◌}
 use lib.Seq.{length-take-le}
 use lib.Dec.{eqb}
 use native.Mathlib.Omega.{arith}
-use Rattle.std.specs.Prelude.{ℕ, position, take}
+use Rattle.std.specs.Prelude.{position, take}
 use Rattle.std.specs.Option.{unwrap_or}
 use Rattle.status.proofs.LeadingLaws.{place_or_length}
 use Rattle.status.proofs.before.Goals as goal

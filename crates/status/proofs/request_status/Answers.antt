@@ -32,6 +32,6 @@ returns c =
     status_held (memory c.args.p.now) c.requires c.args.n (sym c.bad.ensures ∙ c.if-bad.false)
     (sym c.member.ensures ∙ c.if-not-member.false) c.slot_of.ensures c.before-before.ensures c.member-2.ensures
     (elim c.if-executed.branch [
-      then-executed w ↦ rw (lt-ltb _ _ w.if-executed.true) w.response-is
+      | then-executed w ↦ rw (lt-ltb _ _ w.if-executed.true) w.response-is
       | else-executed w ↦ rw (le-ltb _ _ w.if-executed.false) w.response-is
     ])
