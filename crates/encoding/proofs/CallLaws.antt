@@ -13,11 +13,10 @@ use Rattle.creek.specs.Book.{Call, invoke, undo, execute}
 use Rattle.replica.specs.State.{State, Called}
 use Rattle.replica.specs.Promises.{Kept}
 use Rattle.replica.specs.internal.Parts.{KeptBy}
-use Rattle.wire.specs.declared.Message.{Message}
-use Rattle.wire.specs.Message.{said}
+use Rattle.wire.specs.Message.{BusMessage}
 use Rattle.intake.specs.Intake.{call_of}
 use Rattle.encoding.specs.Encoding.{invoke_tag, undo_tag, execute_tag, all_due_tag, message_at, message_call, call_at}
-use Rattle.encoding.specs.Encoding.{Entry, one, all_due, entry_at, after, answer_to, answer_bytes, invocation_of}
+use Rattle.encoding.specs.Encoding.{Entry, one, all_due, entry_at, after, answer_to, answer_bytes, invocation_of, request_in}
 use Rattle.encoding.specs.internal.Running.{is_step, step_entry, Done, EntryPut, PutBy}
 
 -- one call is carried out as it is kept
@@ -72,10 +71,10 @@ module _ (p : State) (tag : ℕ) (r : Called) where
 
 -- ---- the call of a message behind a tag
 
-pub call-made : (tag : ℕ) (m : Message) → tag ≡ invoke_tag → message_call tag m ≡ invoke (invocation_of m.request)
+pub call-made : (tag : ℕ) (m : BusMessage) → tag ≡ invoke_tag → message_call tag m ≡ invoke (invocation_of (request_in m))
 call-made tag m e = rw (eq-eqb tag invoke_tag e) refl
 
-pub call_taken : (tag : ℕ) (m : Message) → (tag ≡ invoke_tag → ⊥) → message_call tag m ≡ call_of (said m)
+pub call_taken : (tag : ℕ) (m : BusMessage) → (tag ≡ invoke_tag → ⊥) → message_call tag m ≡ call_of m
 call_taken tag m e = rw (ne_eqb tag invoke_tag e) refl
 
 -- ---- an entry whose answer was put

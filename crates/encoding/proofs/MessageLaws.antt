@@ -6,13 +6,13 @@ use mathlib.Core.List.{List}
 use native.Mathlib.Omega.{arith}
 use lib.ListN.{length, length-replicate}
 use Rattle.request.specs.declared.Request.{Request}
-use Rattle.wire.specs.declared.Message.{Message}
-use Rattle.wire.specs.declared.Written.{Written}
+use Rattle.request.specs.declared.refusal.Refusal.{Refusal}
+use Rattle.std.specs.Prelude.{Result}
 use Rattle.wire.specs.Layout.{longest_message}
-use Rattle.wire.specs.Message.{request, size_of, weak_with_context, Fits, as_message, said}
+use Rattle.wire.specs.declared.Message.TheVariants.{Request as request}
+use Rattle.wire.specs.Message.{size_of, weak_with_context, Fits}
 use Rattle.wire.specs.Writer.{after_write, Wrote}
 use Rattle.wire.proofs.WriterLaws.{size_most, context-refused, written, bytes_put}
-use Rattle.wire.proofs.MessageLaws.{said-message}
 use Rattle.encoding.specs.Encoding.{no_message_bytes, message_bytes}
 
 after_zeros : (x : Request) → Fits (request x) → after_write (request x) no_message_bytes ≡ message_bytes x
@@ -27,9 +27,5 @@ after_zeros x fits = go (weak_with_context (request x)) refl
     go false e = (written (request x) no_message_bytes e room).1 ∙ rw e (sym (bytes_put (request x) no_message_bytes fits room))
 
 -- the writer, given the message of x and a run of zeros, leaves the message's bytes
-pub message-written : (x : Request) (m : Message) (out : List ℕ) (r : Written) → m ≡ as_message (request x) → Wrote m no_message_bytes out r
-    → out ≡ message_bytes x
-message-written x m out r e w =
-    let is : said m ≡ request x = rw e (said-message (request x)) in
-    let fits : Fits (request x) = rw is at w.fits in
-    rw is at w.after ∙ after_zeros x fits
+pub message-written : (x : Request) (out : List ℕ) (r : Result ℕ Refusal) → Wrote (request x) no_message_bytes out r → out ≡ message_bytes x
+message-written x out r w = w.after ∙ after_zeros x w.fits

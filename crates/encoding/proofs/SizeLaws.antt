@@ -13,7 +13,8 @@ use Rattle.creek.specs.declared.Answer.{Answer}
 use Rattle.creek.specs.Calls.{Replica}
 use Rattle.wire.specs.Integers.{integer_bytes}
 use Rattle.wire.specs.Layout.{longest_message}
-use Rattle.wire.specs.Message.{request, bytes_of, weak_with_context}
+use Rattle.wire.specs.declared.Message.TheVariants.{Request as request}
+use Rattle.wire.specs.Message.{bytes_of, weak_with_context}
 use Rattle.encoding.specs.Encoding.{no_message_bytes, message_bytes, head_bytes, answer_bytes, answer_size, answers_bytes}
 use Rattle.encoding.specs.Encoding.{calls_at, call_size, Entry, entries_from, call_count, entries_of, after, answer_to}
 use Rattle.encoding.specs.Encoding.{tight, entries_run}

@@ -2,6 +2,7 @@
 use Rattle.std.specs.Prelude.{ℕ, zero, suc, ◌+◌, ◌-◌, ◌/◌, Bool, cond, List, [], ◌∷◌, ◌++◌, length, get_or, replicate, eqb, ltb}
 use Rattle.std.proofs.lemmas.List.Edits.{sets}
 use Rattle.request.specs.declared.Request.{Request}
+use Rattle.request.specs.Request.{bare_request, no_request}
 use Rattle.numbers.specs.Numbers.{no_number}
 use Rattle.creek.specs.declared.Invocation.{Invocation}
 use Rattle.creek.specs.declared.Answer.{Answer}
@@ -10,11 +11,11 @@ use Rattle.creek.specs.Replies.{no_mark, reply}
 use Rattle.creek.specs.Calls.{Replica, fresh, step, answer}
 use Rattle.creek.specs.History.{idled}
 use Rattle.creek.specs.Showing.{owed_shown}
-use Rattle.wire.specs.declared.Message.{Message}
 use Rattle.wire.specs.Integers.{integer_bytes}
 use Rattle.wire.specs.Layout.{longest_message}
-use Rattle.wire.specs.Message.{request, bytes_of, said, weak_with_context}
-use Rattle.wire.specs.Reader.{answered, read_at}
+use Rattle.wire.specs.declared.Message.TheVariants.{Request as request, Settlement as settlement}
+use Rattle.wire.specs.Message.{BusMessage, bytes_of, weak_with_context}
+use Rattle.wire.specs.Reader.{Outcome, message, end, refused, read_at}
 use Rattle.intake.specs.Intake.{call_of}
 
 -- ---- the calls
@@ -53,17 +54,28 @@ execute_tag = 3
 abbrev pub all_due_tag : ℕ
 all_due_tag = 4
 
--- the bus message at a place as the reader holds it: zeros where none can be read, which is heard as a request of a bad number
-unfoldable pub message_at : List ℕ → ℕ → Message
-message_at s at = (answered (read_at s at)).message
+-- the bus message that was read: the request of zeros where there was none, which is heard as one of a bad number
+abbrev pub message_of : Outcome → BusMessage
+message_of (message m n) = m
+message_of end = request no_request
+message_of (refused w) = request no_request
+
+-- that at a place
+unfoldable pub message_at : List ℕ → ℕ → BusMessage
+message_at s at = message_of (read_at s at)
+
+-- the request of a message, of which a settlement has the number alone
+abbrev pub request_in : BusMessage → Request
+request_in (request r) = r
+request_in (settlement n) = bare_request n
 
 -- the invocation that a request stands for: what it asks for and its clock reading
 unfoldable pub invocation_of : Request → Invocation
 invocation_of x = record { asked = x.asked; clock = x.clock }
 
 -- the call of a message behind that tag: make, or the bus message's own
-abbrev pub message_call : ℕ → Message → Call
-message_call tag m = cond {A = Call} (eqb tag invoke_tag) (invoke (invocation_of m.request)) (call_of (said m))
+abbrev pub message_call : ℕ → BusMessage → Call
+message_call tag m = cond {A = Call} (eqb tag invoke_tag) (invoke (invocation_of (request_in m))) (call_of m)
 
 -- the call at a place
 unfoldable pub call_at : List ℕ → ℕ → Call

@@ -9,7 +9,9 @@ ghost use Rattle.encoding.specs.internal.Running.{receipt_answer};
 use super::calls;
 use creek::{Answer, Reply, mark};
 use intake::Receipt;
-use request::{Request, refusal};
+use request::Request;
+use request::refusal::Refusal;
+use wire::Message;
 use wire::layout::LONGEST_MESSAGE;
 
 // The bytes of every answer: eight, and room for the longest bus message.
@@ -28,7 +30,7 @@ fn answer_in(r: Receipt) -> Answer
     ensures { result ≡ receipt_answer r }
 {
     if r.taken == 0 {
-        return replica::refused(refusal::BAD_NUMBER);
+        return replica::refused(u8::from(Refusal::BadNumber));
     }
     replica::answer_of(r.reply)
 }
@@ -68,11 +70,7 @@ pub fn put_answer(out: &mut [u8], at: usize, a: Answer) -> usize
     let number = a.number;
     let panel = number.panel.0;
     let event = number.event.0;
-    let v = a.response;
-    let lowest = (v % 256) as u8;
-    let low = (v / 256 % 256) as u8;
-    let high = (v / 256 / 256 % 256) as u8;
-    let highest = (v / 256 / 256 / 256 % 256) as u8;
+    let [lowest, low, high, highest] = a.response.to_le_bytes();
     let head = [a.refusal, a.mark, panel, event, lowest, low, high, highest];
     let message_at = text::put_bytes(out, at, &head);
     put_message(out, message_at, a.request)
@@ -84,7 +82,6 @@ fn put_message(out: &mut [u8], at: usize, x: Request) -> usize
     ensures { Placed out.old at (message_bytes x) out.new result }
 {
     let mut message = [0u8; LONGEST_MESSAGE];
-    let spread = wire::of_request(x);
-    let written = writer::write(&mut message, spread);
+    let _written = writer::write(&mut message, Message::Request(x));
     text::put_bytes(out, at, &message)
 }

@@ -2,13 +2,17 @@
 ghost use Rattle.std.specs.Prelude.{◌≡◌, get_or};
 ghost use Rattle.replica.specs.Promises.{Fresh};
 ghost use Rattle.replica.specs.internal.Parts.{opened_with_zeros};
-ghost use Rattle.encoding.specs.Encoding.{panels_of, own_of, call_count, message_at, invocation_of};
+ghost use Rattle.encoding.specs.Encoding.{panels_of, own_of, call_count, message_at, message_of, request_in, invocation_of};
+ghost use Rattle.wire.specs.Reader.{outcome_of};
 ghost use Rattle.encoding.specs.internal.Running.{is_step};
 
 use creek::Invocation;
 use numbers::PanelNo;
 use replica::Shop;
+use request::Request;
+use request::refusal::Refusal;
 use wire::layout::LONGEST_MESSAGE;
+use wire::{Message, Reading};
 
 pub const PANELS_AT: usize = 0;
 
@@ -32,20 +36,14 @@ pub const ALL_DUE: u8 = 4;
 pub fn byte_at(s: &[u8], at: usize) -> u8
     ensures { result ≡ get_or s.now at 0 }
 {
-    if at < s.len() {
-        return s[at];
-    }
-    0
+    s.get(at).copied().unwrap_or(0)
 }
 
 // How many whole calls stand in `s`.
 pub fn call_count(s: &[u8]) -> usize
     ensures { result ≡ call_count s.now }
 {
-    if s.len() < CALLS_AT {
-        return 0;
-    }
-    (s.len() - CALLS_AT) / CALL_SIZE
+    s.len().saturating_sub(CALLS_AT) / CALL_SIZE
 }
 
 // The shop that `s` asks for, as it is opened.
@@ -64,14 +62,27 @@ pub fn is_step(tag: u8) -> bool
     (tag == UNDO) | (tag == EXECUTE) | (tag == ALL_DUE)
 }
 
-// What is asked for by the request whose message stands at a place, with its clock reading.
+// What is asked for by the request whose message stands at a place, with its clock reading; zeros, where none stands there.
 pub fn invocation_at(s: &[u8], at: usize) -> Invocation
-    ensures { result ≡ invocation_of (message_at s.now at).request }
+    ensures { result ≡ invocation_of (request_in (message_at s.now at)) }
 {
-    let reading = wire::read(s, at);
-    let message = reading.message;
-    let request = message.request;
-    let asked = request.asked;
-    let clock = request.clock;
-    Invocation { asked, clock }
+    let request = request_of(wire::read(s, at));
+    Invocation {
+        asked: request.asked,
+        clock: request.clock,
+    }
+}
+
+// The request that was read, zeros where it was none.
+fn request_of(read: Result<Option<Reading>, Refusal>) -> Request
+    ensures { result ≡ request_in (message_of (outcome_of read)) }
+{
+    match read {
+        Ok(Some(reading)) => match reading.message {
+            Message::Request(r) => r,
+            Message::Settlement(n) => request::bare(n),
+        },
+        Ok(None) => request::none(),
+        Err(_) => request::none(),
+    }
 }

@@ -19,8 +19,9 @@ use Rattle.replica.specs.State.{State}
 use Rattle.replica.specs.Promises.{Fresh, Kept}
 use Rattle.replica.specs.internal.Model.{book_of, model, Inv}
 use Rattle.due.specs.Due.{RunDue}
-use Rattle.wire.specs.Reader.{Outcome, message, end, refused as unread, answered, read_at}
-use Rattle.wire.specs.Message.{BusMessage, request, settlement}
+use Rattle.wire.specs.Reader.{Outcome, message, end, refused as unread, read_at}
+use Rattle.wire.specs.declared.Message.TheVariants.{Request as request, Settlement as settlement}
+use Rattle.wire.specs.Message.{BusMessage}
 use Rattle.intake.specs.Intake.{call_of, answer_to, number_told, kind_told, received, is_taken_in, Received}
 use Rattle.history.specs.Received.{calls_in}
 use Rattle.history.specs.Worthless.{PanelCall, single, run_due, receive, next, KeepsCalls, Keeps}
@@ -105,7 +106,7 @@ module _ (p : State) (s : Storable (model p)) where
   -- what stands at a place, received
   pub right-received : (o : Outcome) → All CallFits (calls_in o) → Inv p
       → Received p o (right_received p o).receipt (right_received p o).state
-  unfolding right_received answered answer_to number_told kind_told received is_taken_in
+  unfolding right_received answer_to number_told kind_told received is_taken_in
   right-received (message m n) fit inv =
       let kept = right-call (call_of m) fit.0 inv in
       record {

@@ -6,6 +6,8 @@ use mathlib.Core.Path.{◌≡◌, refl}
 use mathlib.Core.Bool.{not}
 use mathlib.Core.List.{List}
 use mathlib.Core.Option.{Option, none, some}
+use Rattle.std.specs.Prelude.{Some, None}
+use Rattle.std.specs.declared.option.Option.{Option as Found}
 use lib.ListN.{length, drop}
 use lib.Dec.{ltb, leb, eqb, lit<}
 use Rattle.lists.specs.Places.{All}
@@ -28,8 +30,9 @@ use Rattle.wire.specs.declared.Kind.{Kind}
 use Rattle.wire.specs.declared.Kind.TheVariants.{Weak, Strong, Settlement}
 use Rattle.wire.specs.Layout.{kind_with, least_size, most_size, layout, widths_with}
 use Rattle.fields.specs.Widths.{head_size, decode, Within}
-use Rattle.wire.specs.Message.{BusMessage, request, settlement, message_from, number_in}
-use Rattle.wire.specs.Reader.{Outcome, message, end, refused, refusal_of, answered, length_at, kind_at, run_at, fields_at, spare_set}
+use Rattle.wire.specs.declared.Message.TheVariants.{Request as request, Settlement as settlement}
+use Rattle.wire.specs.Message.{BusMessage, message_from, number_in}
+use Rattle.wire.specs.Reader.{Outcome, message, end, refused, refusal_of, length_at, kind_at, run_at, fields_at, spare_set}
 use Rattle.wire.specs.Reader.{refusal_as, read_as, read_with, read_at}
 use Rattle.wire.proofs.RoundTrip.{taken}
 use Rattle.intake.specs.Intake.{call_of}
@@ -52,15 +55,15 @@ reader-byte k s at =
 
 -- the outcome's refusal number has one byte
 abbrev AnsweredByte : Outcome → Type 0
-AnsweredByte o = OneByte (refusal_of (answered o).answer)
+AnsweredByte o = OneByte (refusal_of o)
 
-as_option : (o : Option Kind) (s : List ℕ) (at : ℕ) → AnsweredByte (read_with o s at)
-unfolding answered read_as
-as_option none s at = lit< tt
-as_option (some k) s at = either AnsweredByte (eqb (refusal_as k s at) refused_by.accepted) (λ t. lit< tt) (λ t. reader-byte k s at)
+as_option : (o : Found Kind) (s : List ℕ) (at : ℕ) → AnsweredByte (read_with o s at)
+unfolding read_as
+as_option None s at = lit< tt
+as_option (Some k) s at = either AnsweredByte (eqb (refusal_as k s at) refused_by.accepted) (λ t. lit< tt) (λ t. reader-byte k s at)
 
 read_byte : (s : List ℕ) (at : ℕ) → AnsweredByte (read_at s at)
-unfolding read_at answered
+unfolding read_at
 read_byte s at =
     either AnsweredByte (leb (length s) at) (λ t. lit< tt)
     (λ t. either AnsweredByte (ltb (length s - at) head_size) (λ t. lit< tt) (λ t. as_option (kind_with (kind_at s at)) s at))
@@ -126,7 +129,6 @@ Narrow end = Unit {0}
 Narrow (refused w) = OneByte w
 
 read_narrow : (s : List ℕ) (at : ℕ) → Bytes s → Narrow (read_at s at)
-unfolding answered
 read_narrow s at bytes = go (read_at s at) refl
   where
     go : (o : Outcome) → read_at s at ≡ o → Narrow o

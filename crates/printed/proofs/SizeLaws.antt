@@ -38,7 +38,8 @@ use Rattle.creek.proofs.DueLaws.{later_plan, later_sound}
 use Rattle.creek.proofs.BoundLaws.{few_undos}
 use Rattle.fields.proofs.IntegerLaws.{Bytes}
 use Rattle.wire.specs.Layout.{least_message}
-use Rattle.wire.specs.Message.{BusMessage, request, settlement, kind_of}
+use Rattle.wire.specs.declared.Message.TheVariants.{Request as request, Settlement as settlement}
+use Rattle.wire.specs.Message.{BusMessage, kind_of}
 use Rattle.wire.specs.Reader.{Outcome, message, end, refused, read_at}
 use Rattle.wire.proofs.KindLaws.{kind_laws}
 use Rattle.intake.specs.Intake.{call_of}

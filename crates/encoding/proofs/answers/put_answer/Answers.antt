@@ -1,6 +1,7 @@
 -- `answers::put_answer` meets its contract: the head, and the message behind it.
-use Prim.Native.Nat.{ℕ, ◌+◌, ◌≤◌}
-use mathlib.Core.List.{List}
+use Prim.Native.Nat.{ℕ, ◌+◌, ◌/◌, ◌%◌, ◌≤◌}
+use mathlib.Core.List.{List, [], ◌∷◌}
+use mathlib.Core.Path.{◌≡◌}
 use lib.ListN.{length}
 use native.Mathlib.Omega.{arith}
 use Rattle.creek.specs.declared.Answer.{Answer}
@@ -11,22 +12,35 @@ use Rattle.encoding.specs.Encoding.{answer_size, answer_bytes, head_bytes, messa
 use Rattle.encoding.proofs.SizeLaws.{length-answer}
 use Rattle.encoding.proofs.answers.put_answer.Goals as goal
 
+-- its head, the bytes of the response as the library has them
+head : (a : Answer)
+    → a.refusal ∷ a.mark ∷ a.number.panel.0 ∷ a.number.event.0 ∷ (a.response % 256) ∷ (a.response / 256 % 256)
+    ∷ (a.response / 65536 % 256) ∷ (a.response / 16777216 % 256) ∷ []
+    ≡ head_bytes a
+unfolding head_bytes integer_bytes
+head a =
+    let third : a.response / 65536 ≡ a.response / 256 / 256 = omega arith in
+    let fourth : a.response / 16777216 ≡ a.response / 256 / 256 / 256 = omega arith in
+    rw (third, fourth)
+
 -- there is room for the answer
 room : (out : List ℕ) (at : ℕ) (a : Answer) → at + answer_size ≤ length out → Room out at (answer_bytes a)
 room out at a fits = record { fits = omega (arith, length-answer a) }
 
 pub put_bytes-message_at-requires : goal.put_bytes-message_at-requires
-unfolding answer_bytes head_bytes integer_bytes
+unfolding answer_bytes
 put_bytes-message_at-requires c =
-    room_first (head_bytes c.args.a) (message_bytes c.args.a.request) (room _ _ c.args.a c.requires)
+    rw (c.to_le_bytes.ensures, head c.args.a) (room_first (head_bytes c.args.a) (message_bytes c.args.a.request) (room _ _ c.args.a c.requires))
 
 pub put_message-requires : goal.put_message-requires
-unfolding answer_bytes head_bytes integer_bytes
+unfolding answer_bytes
 put_message-requires c =
-    room_next {s = head_bytes c.args.a} (message_bytes c.args.a.request) c.put_bytes-message_at.ensures (room _ _ c.args.a c.requires)
+    let put = rw (c.to_le_bytes.ensures, head c.args.a) at c.put_bytes-message_at.ensures in
+    room_next {s = head_bytes c.args.a} (message_bytes c.args.a.request) put (room _ _ c.args.a c.requires)
 
 pub returns : goal.returns
-unfolding answer_bytes head_bytes integer_bytes
+unfolding answer_bytes
 returns c =
     let a = c.args.a in
-    then {s = head_bytes a} {t = message_bytes a.request} c.put_bytes-message_at.ensures c.put_message.ensures
+    let put = rw (c.to_le_bytes.ensures, head c.args.a) at c.put_bytes-message_at.ensures in
+    then {s = head_bytes a} {t = message_bytes a.request} put c.put_message.ensures

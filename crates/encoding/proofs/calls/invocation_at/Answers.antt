@@ -1,9 +1,8 @@
 -- `calls::invocation_at` meets its contract.
-use mathlib.Core.Path.{ap}
-use Rattle.wire.specs.declared.Reading.{Reading}
-use Rattle.encoding.specs.Encoding.{message_at, invocation_of}
+use mathlib.Core.Path.{ap, ◌∙◌}
+use Rattle.encoding.specs.Encoding.{message_at, message_of, request_in, invocation_of}
 use Rattle.encoding.proofs.calls.invocation_at.Goals as goal
 
 pub returns : goal.returns
 unfolding message_at invocation_of
-returns c = ap (λ (r : Reading). invocation_of r.message.request) c.read-reading.ensures
+returns c = ap invocation_of (c.request_of-request.ensures ∙ ap (λ o. request_in (message_of o)) c.read.ensures)
