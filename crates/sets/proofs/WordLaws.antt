@@ -2,7 +2,7 @@
 use Prim.Native.Nat.{ℕ, suc, ◌+◌, ◌-◌, ◌<◌, ◌≤◌}
 use native.Mathlib.Numerals.{add-one}
 use mathlib.Core.Path.{◌≡◌, refl, ap}
-use mathlib.Core.Bool.{true, false, ◌&&◌}
+use mathlib.Core.Bool.{Bool, true, false, not, ◌&&◌, ◌||◌}
 use mathlib.Core.List.{List, [], ◌∷◌, ◌++◌, append-nil}
 use lib.ListN.{length, take, drop, get_or, set, drop_of_length-le}
 use lib.Seq.{drop-cons, take-suc-set, drop-set-lt, append_snoc, take_all}
@@ -11,26 +11,25 @@ use lib.Count.{count_trailing_zeros}
 use lib.Dec.{eqb}
 use borrow.Author.Tests.{eq-eqb, ne_eqb, eqb-true}
 use native.Mathlib.Omega.{arith}
+use Rattle.std.specs.List.{list_any}
 use Rattle.numbers.specs.Numbers.{numbered, no_number, most_events}
 use Rattle.sets.specs.Sets.{same_words, all_zero, lacked_words, lowest_from}
 use Rattle.lists.proofs.BoolLaws.{true_not_false, both_true, both}
 
 -- ---- all zero
 
-module _ (ws : List ℕ) (i : ℕ) (inside : i < length ws) where
-  zero_word_lem : all_zero (drop i ws) ≡ eqb (get_or ws i 0) 0 && all_zero (drop (i + 1) ws)
-  unfolding all_zero
-  zero_word_lem = rw (drop-cons ws i 0 inside, add-one)
+abbrev pub nonzero : ℕ → Bool
+nonzero w = not (eqb w 0)
 
-  pub zero-passed : get_or ws i 0 ≡ 0 → all_zero (drop i ws) ≡ all_zero (drop (i + 1) ws)
-  zero-passed e = rw (zero_word_lem, eq-eqb (get_or ws i 0) 0 e)
-
-  pub zero_stopped : (get_or ws i 0 ≡ 0 → ⊥) → all_zero (drop i ws) ≡ false
-  zero_stopped e = rw (zero_word_lem, ne_eqb (get_or ws i 0) 0 e)
-
-pub zero-end : (ws : List ℕ) (i : ℕ) → length ws ≤ i → all_zero (drop i ws) ≡ true
+-- some word is not 0 where not all are
+pub some-nonzero : (ws : List ℕ) → list_any nonzero ws ≡ not (all_zero ws)
 unfolding all_zero
-zero-end ws i h = rw (drop_of_length-le ws {i = i} h)
+some-nonzero [] = refl
+some-nonzero (w ∷ ws) = rw (some-nonzero ws) (go (eqb w 0))
+  where
+    go : (b : Bool) → (not b || not (all_zero ws)) ≡ not (b && all_zero ws)
+    go true = refl
+    go false = refl
 
 -- ---- equal
 

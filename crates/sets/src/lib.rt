@@ -11,13 +11,13 @@ use numbers::{EventNo, Number, PanelNo};
 
 // A set of numbers: word p is panel p's, and bit e - 1 of it is event e's.
 #[repr(C)]
-#[derive(Clone, Copy)]
+#[derive(Clone, Copy, PartialEq, Eq)]
 pub struct Context {
     pub words: [u64; 8],
 }
 
-// A word for each panel.
-const WORDS: usize = numbers::MOST_PANELS as usize;
+// The words of a set, one for each panel.
+pub const WORDS: usize = numbers::MOST_PANELS as usize;
 
 // The set with no number.
 pub fn empty() -> Context
@@ -30,14 +30,7 @@ pub fn empty() -> Context
 pub fn names_from(s: Context, panels: u8) -> bool
     ensures { result ≡ names_from panels s }
 {
-    let mut i = panels as usize;
-    while i < WORDS {
-        if s.words[i] != 0 {
-            return true;
-        }
-        i += 1;
-    }
-    false
+    s.words.iter().skip(panels as usize).any(|word| *word != 0)
 }
 
 // Whether s holds no number.
@@ -52,11 +45,9 @@ pub fn difference(s: Context, t: Context) -> Context
     ensures { result ≡ difference_of s t }
 {
     let mut d = s;
-    let mut i = 0;
-    while i < WORDS {
+    for i in 0..WORDS {
         let word = d.words[i];
         d.words[i] = word - (word & t.words[i]);
-        i += 1;
     }
     d
 }
@@ -73,18 +64,14 @@ pub fn is_subset(s: Context, t: Context) -> bool
 pub fn lowest(s: Context) -> Number
     ensures { result ≡ lowest_of s }
 {
-    let mut panel: u8 = 0;
-    while panel < numbers::MOST_PANELS {
-        let word = s.words[panel as usize];
-        if word != 0 {
-            let bit = u64::trailing_zeros(word) as u8;
-            let event = bit + 1;
+    for (panel, word) in s.words.iter().enumerate() {
+        if *word != 0 {
+            let bit = word.trailing_zeros() as u8;
             return Number {
-                panel: PanelNo(panel),
-                event: EventNo(event),
+                panel: PanelNo(panel as u8),
+                event: EventNo(bit + 1),
             };
         }
-        panel += 1;
     }
     numbers::none()
 }

@@ -1,15 +1,11 @@
 -- `sets::difference` meets its contract. The invariant: with the words from i on still to do, d leads to the whole difference.
 use native.Mathlib.Omega.{arith}
-use borrow.Author.Rules.{rules}
-use mathlib.Core.Path.{refl, sym, ap, ◌∙◌}
+use mathlib.Core.Path.{sym, ap, ◌∙◌}
 use lib.ListN.{length-set}
 use lib.Bits.{and_le_l}
 use Rattle.sets.specs.Sets.{set_of, difference}
 use Rattle.sets.proofs.WordLaws.{lacked-step, lacked-end}
 use Rattle.sets.proofs.difference.Goals as goal
-
-pub loop-i-init : goal.loop-i-init
-loop-i-init c = (search rules, search rules, refl)
 
 pub overflow_sub-d : goal.overflow_sub-d
 overflow_sub-d c = and_le_l _ _

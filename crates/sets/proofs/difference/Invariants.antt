@@ -1,5 +1,4 @@
 -- `sets::difference` meets its contract. The invariant: with the words from i on still to do, d leads to the whole difference.
-use Prim.Native.Nat.{◌-◌}
 use mathlib.Core.Path.{◌≡◌}
 use lib.ListN.{length}
 use Rattle.numbers.specs.Numbers.{most_panels}
@@ -11,6 +10,3 @@ abbrev pub invariant-loop-i : goal.invariant-loop-i
 invariant-loop-i l =
     (length l.d.words ≡ most_panels) × (length l.t.words ≡ most_panels)
     × (lacked_from l.i l.d.words l.t.words ≡ lacked_words l.initial.d.words l.t.words)
-
-abbrev pub decreases-loop-i : goal.decreases-loop-i
-decreases-loop-i l = most_panels - l.i

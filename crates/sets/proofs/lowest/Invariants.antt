@@ -1,5 +1,4 @@
 -- `sets::lowest` meets its contract. The invariant: the lowest number is that of the words from the panel on.
-use Prim.Native.Nat.{◌≤◌, ◌-◌}
 use mathlib.Core.Path.{◌≡◌}
 use lib.ListN.{length, drop}
 use Rattle.numbers.specs.Numbers.{most_panels}
@@ -8,8 +7,4 @@ use Rattle.sets.proofs.lowest.Given as goal
 
 abbrev pub invariant-loop-panel : goal.invariant-loop-panel
 invariant-loop-panel l =
-    (l.panel ≤ most_panels) × (length l.s.words ≡ most_panels)
-    × (lowest_from 0 l.s.words ≡ lowest_from l.panel (drop l.panel l.s.words))
-
-abbrev pub decreases-loop-panel : goal.decreases-loop-panel
-decreases-loop-panel l = most_panels - l.panel
+    (length l.word-items ≡ most_panels) × (lowest_from 0 l.word-items ≡ lowest_from l.panel (drop l.panel l.word-items))

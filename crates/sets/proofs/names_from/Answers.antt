@@ -1,28 +1,17 @@
--- `sets::names_from` meets its contract. The invariant: the words from the panel on are all zero where those from i on are.
-use native.Mathlib.Omega.{arith}
+-- `sets::names_from` meets its contract: some word behind the first ones is not 0 where not all of them are.
 use borrow.Author.Rules.{rules}
-use mathlib.Core.Path.{refl, sym, ap, ◌∙◌}
-use mathlib.Core.Bool.{not}
+use mathlib.Core.Path.{◌∙◌}
+use Rattle.std.proofs.Common.{tests}
+use Rattle.std.proofs.lemmas.Iterator.{YieldsList-from_slice}
+use Rattle.std.proofs.lemmas.Iterator.Adapters.{YieldsList-from_skip}
+use Rattle.std.proofs.lemmas.Iterator.Search.{any_from_yields_List}
 use Rattle.sets.specs.Sets.{names_from}
-use Rattle.sets.proofs.WordLaws.{zero-passed, zero_stopped, zero-end}
+use Rattle.sets.proofs.WordLaws.{nonzero, some-nonzero}
 use Rattle.sets.proofs.names_from.Goals as goal
-
-pub loop-i-init : goal.loop-i-init
-loop-i-init c = (search rules, refl)
-
-pub returns-then-s-i-ne0 : goal.returns-then-s-i-ne0
-unfolding names_from
-returns-then-s-i-ne0 c =
-    let v = c.loop-i in
-    ap not (sym (v.invariant.1 ∙ zero_stopped _ v.i (omega arith) c.if-s-i-ne0.true))
-
-pub loop-i-preserved : goal.loop-i-preserved
-loop-i-preserved c =
-    let v = c.loop-i in
-    (v.invariant.0, v.invariant.1 ∙ zero-passed _ v.i (omega arith) c.if-s-i-ne0.false)
 
 pub returns : goal.returns
 unfolding names_from
 returns c =
-    let v = c.loop-i in
-    ap not (sym (v.invariant.1 ∙ zero-end _ v.i (omega arith)))
+    any_from_yields_List nonzero _ _ _ c.any.ensures.ran (YieldsList-from_skip c.args.panels (YieldsList-from_slice c.args.s.words cc) cc)
+    (λ x b q k. search (rules, tests))
+    ∙ some-nonzero _
