@@ -2,15 +2,13 @@
 // definitions the contracts cite.
 #![tactic(auto)]
 
-ghost use Rattle.std.specs.Prelude.{◌≡◌, length};
-ghost use Rattle.numbers.specs.Numbers.{most_panels};
+ghost use Rattle.std.specs.Prelude.{◌≡◌, ◌*◌, ◌<◌, length};
+ghost use Rattle.numbers.specs.Numbers.{most_panels, most_events};
 ghost use Rattle.numbers.specs.internal.Slots.{number_of, GoodNumber};
 ghost use Rattle.sets.specs.Sets.{set_of, mask_of, names_from, member as member_of, join as joined, leave as left};
 
 use numbers::Number;
-
-// A word for each panel.
-const WORDS: usize = numbers::MOST_PANELS as usize;
+use sets::Context;
 
 // Whether n is in the set.
 pub fn member(words: &[u64; 8], n: Number) -> bool
@@ -19,25 +17,24 @@ pub fn member(words: &[u64; 8], n: Number) -> bool
     if numbers::bad(numbers::MOST_PANELS, n) {
         return false;
     }
-    let panel = n.panel.0 as usize;
     let bit = (n.event.0 - 1) as u64;
-    let word = words[panel];
-    (word >> bit) % 2 == 1
+    (words[n.panel.0 as usize] >> bit) % 2 == 1
 }
 
-// The most panels and events, as wide as a slot.
-const PANELS: u16 = numbers::MOST_PANELS as u16;
+// Whether the number of a slot of the table is in the set, by the slot's digits: a slot's number is good, so that there is nothing to test.
+pub fn has_slot(words: &[u64; 8], slot: u16) -> bool
+    requires { slot < most_panels * most_events }
+    ensures { result ≡ member_of (set_of words.now) (number_of slot) }
+{
+    let (panel, bit) = numbers::digits(slot);
+    (words[panel] >> bit) % 2 == 1
+}
 
-const EVENTS: u16 = numbers::MOST_EVENTS as u16;
-
-// Whether the number of that slot is in the set, by the slot's digits: a slot's number is good, so that there is nothing to test.
+// The same of any slot: one past the table counts round.
 pub fn member_at(words: &[u64; 8], slot: u16) -> bool
     ensures { result ≡ member_of (set_of words.now) (number_of slot) }
 {
-    let panel = (slot / EVENTS % PANELS) as usize;
-    let bit = (slot % EVENTS) as u64;
-    let word = words[panel];
-    (word >> bit) % 2 == 1
+    has_slot(words, slot % numbers::SLOTS)
 }
 
 // Whether the set holds a number of a panel not below `panels`.
@@ -45,15 +42,8 @@ pub fn names_from(words: &[u64; 8], panels: u8) -> bool
     requires { length words.now ≡ most_panels }
     ensures { result ≡ names_from panels (set_of words.now) }
 {
-    let mut i = panels as usize;
-    while i < WORDS {
-        let word = words[i];
-        if word != 0 {
-            return true;
-        }
-        i += 1;
-    }
-    false
+    let set = Context { words: *words };
+    sets::names_from(set, panels)
 }
 
 // The word in which only n's bit is set.
@@ -73,20 +63,15 @@ pub fn join(words: &mut [u64; 8], n: Number)
         return;
     }
     let mask = mask(n);
-    let panel = n.panel.0 as usize;
-    let word = words[panel];
-    words[panel] = word | mask;
+    words[n.panel.0 as usize] |= mask;
 }
 
 // Puts the number of that slot into the set, by the slot's digits.
 pub fn join_at(words: &mut [u64; 8], slot: u16)
     ensures { set_of words.new ≡ joined (set_of words.old) (number_of slot) }
 {
-    let at = (slot / EVENTS % PANELS) as usize;
-    let place = (slot % EVENTS) as u64;
-    let mask = 1u64 << place;
-    let word = words[at];
-    words[at] = word | mask;
+    let (panel, bit) = numbers::digits(slot % numbers::SLOTS);
+    words[panel] |= 1u64 << bit;
 }
 
 // Takes n out of the set.
@@ -97,7 +82,5 @@ pub fn leave(words: &mut [u64; 8], n: Number)
         return;
     }
     let mask = mask(n);
-    let panel = n.panel.0 as usize;
-    let word = words[panel];
-    words[panel] = word ^ mask;
+    words[n.panel.0 as usize] ^= mask;
 }

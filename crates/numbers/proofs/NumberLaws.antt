@@ -1,5 +1,5 @@
 -- Laws of numbers: good numbers, equality, and a number's slot as its two digits.
-use Prim.Native.Nat.{ℕ, ◌+◌, ◌-◌, ◌*◌, ◌/◌, ◌%◌, ◌<◌}
+use Prim.Native.Nat.{ℕ, ◌+◌, ◌*◌, ◌/◌, ◌%◌, ◌<◌}
 use native.Mathlib.Omega.{arith}
 use native.Mathlib.Nat.{div-add-mod'}
 use mathlib.Core.Path.{◌≡◌, refl, sym, ap, ◌∙◌}
@@ -80,3 +80,11 @@ module _ (s : ℕ) (fits : s < most_panels * most_events) where
 pub number_of_good : (s : ℕ) → GoodNumber most_panels (number_of s)
 unfolding number_of
 number_of_good s = record { panel = omega arith; least = omega arith; most = omega arith }
+
+-- a slot past the table counts round
+pub number_of_rest : (s : ℕ) → number_of (s % (most_panels * most_events)) ≡ number_of s
+unfolding number_of
+number_of_rest s =
+    let p : s % (most_panels * most_events) / most_events % most_panels ≡ s / most_events % most_panels = omega arith in
+    let e : s % (most_panels * most_events) % most_events ≡ s % most_events = omega arith in
+    rw (p, e)

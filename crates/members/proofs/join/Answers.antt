@@ -22,11 +22,11 @@ good c = good-number _ _ (not_bad c)
 pub mask-mask-requires : goal.mask-mask-requires
 mask-mask-requires c = good c
 
-pub bounds-words-panel : goal.bounds-words-panel
-bounds-words-panel c = omega (arith, good (goal.at.bounds-words-panel c).Else-bad)
+pub bounds-words-n : goal.bounds-words-n
+bounds-words-n c = omega (arith, good (goal.at.bounds-words-n c).Else-bad)
 
-pub bounds-words-panel-2 : goal.bounds-words-panel-2
-bounds-words-panel-2 c = omega (arith, good (goal.at.bounds-words-panel-2 c).Else-bad)
+pub bounds-words-n-2 : goal.bounds-words-n-2
+bounds-words-n-2 c = omega (arith, good (goal.at.bounds-words-n-2 c).Else-bad)
 
 pub returns : goal.returns
 unfolding join

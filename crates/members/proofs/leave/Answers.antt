@@ -23,11 +23,11 @@ good c = good-number _ _ (member_good _ _ (is_member c))
 pub mask-mask-requires : goal.mask-mask-requires
 mask-mask-requires c = good c
 
-pub bounds-words-panel : goal.bounds-words-panel
-bounds-words-panel c = omega (arith, good (goal.at.bounds-words-panel c).Else-not-member)
+pub bounds-words-n : goal.bounds-words-n
+bounds-words-n c = omega (arith, good (goal.at.bounds-words-n c).Else-not-member)
 
-pub bounds-words-panel-2 : goal.bounds-words-panel-2
-bounds-words-panel-2 c = omega (arith, good (goal.at.bounds-words-panel-2 c).Else-not-member)
+pub bounds-words-n-2 : goal.bounds-words-n-2
+bounds-words-n-2 c = omega (arith, good (goal.at.bounds-words-n-2 c).Else-not-member)
 
 pub returns : goal.returns
 unfolding leave

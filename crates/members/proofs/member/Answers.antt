@@ -22,8 +22,8 @@ good c = good-number _ _ (not_bad c)
 pub overflow_sub-bit : goal.overflow_sub-bit
 overflow_sub-bit c = omega (arith, good (goal.at.overflow_sub-bit c).Else-bad)
 
-pub bounds-words-panel : goal.bounds-words-panel
-bounds-words-panel c = omega (arith, good (goal.at.bounds-words-panel c).Else-bad)
+pub bounds-words-n : goal.bounds-words-n
+bounds-words-n c = omega (arith, good (goal.at.bounds-words-n c).Else-bad)
 
 pub overflow_shr-result : goal.overflow_shr-result
 overflow_shr-result c = omega (arith, good (goal.at.overflow_shr-result c).Else-bad)
