@@ -6,6 +6,7 @@ use mathlib.Core.Path.{◌≡◌, refl, sym, ap, ◌∙◌}
 use mathlib.Core.Bool.{true, false, not}
 use borrow.Author.Tests.{ltb-true, leb-true, lt-ltb, le-leb, eqb-true, eq-eqb, not-false}
 use Rattle.numbers.specs.declared.Number.{Number}
+use Rattle.numbers.specs.contracts.NumberPartialEq.TheImpl as number_eq
 use Rattle.numbers.specs.Numbers.{same_number, most_panels, most_events, bad_number}
 use Rattle.numbers.specs.internal.Slots.{GoodNumber, slot_of, number_of}
 use Rattle.lists.proofs.BoolLaws.{both_true, both, neither_true, neither, same_test}
@@ -36,6 +37,11 @@ same_number_sound m n e =
     let p : m.panel.0 ≡ n.panel.0 = eqb-true _ _ h.0 in
     let q : m.event.0 ≡ n.event.0 = eqb-true _ _ h.1 in
     λ i. record { panel = record { 0 = p i }; event = record { 0 = q i } }
+
+-- it is what the code's == says
+pub equal_number : (m n : Number) → (number_eq.ghosts).eq m n ≡ same_number m n
+unfolding same_number
+equal_number m n = refl
 
 pub same_number_of : (m n : Number) → m.panel.0 ≡ n.panel.0 → m.event.0 ≡ n.event.0 → same_number m n ≡ true
 unfolding same_number

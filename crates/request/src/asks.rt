@@ -1,6 +1,6 @@
-// What a request asks for, as one thing: its operation, zeros, equality, and the test behind refusal 3.
+// What a request asks for, as one thing: its operation, zeros, and the test behind refusal 3.
 ghost use Rattle.std.specs.Prelude.{◌≡◌};
-ghost use Rattle.request.specs.Asked.{operation_of, nothing_asked, same_asked, bad_asked};
+ghost use Rattle.request.specs.Asked.{operation_of, nothing_asked, bad_asked};
 
 use super::{Asked, Operation, operations};
 
@@ -27,14 +27,6 @@ pub fn none() -> Asked
         strong: false,
         amount: 0,
     }
-}
-
-// Whether all fields of a and b are equal.
-pub fn same(a: Asked, b: Asked) -> bool
-    ensures { result ≡ same_asked a b }
-{
-    let operations = operations::same(operation(a), operation(b));
-    operations & (a.strong == b.strong)
 }
 
 // The test behind refusal 3.

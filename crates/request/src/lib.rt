@@ -17,7 +17,7 @@ use numbers::{Clock, Number};
 use sets::Context;
 
 // An operation on register r; under a move, from register r to register q; under a claim of registers together, on r to q.
-#[derive(Clone, Copy)]
+#[derive(Clone, Copy, PartialEq, Eq)]
 pub struct Operation {
     pub code: u8,
     pub r: u8,
@@ -27,7 +27,7 @@ pub struct Operation {
 
 // What a request asks for: the fields of an operation, and whether it is strong, in the order in which a bus message has them.
 #[repr(C)]
-#[derive(Clone, Copy)]
+#[derive(Clone, Copy, PartialEq, Eq)]
 pub struct Asked {
     pub code: u8,
     pub r: u8,
@@ -38,7 +38,7 @@ pub struct Asked {
 
 // A request; its fields stand so that there is no gap between them.
 #[repr(C)]
-#[derive(Clone, Copy)]
+#[derive(Clone, Copy, PartialEq, Eq)]
 pub struct Request {
     pub context: Context,
     pub asked: Asked,

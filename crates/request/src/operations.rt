@@ -1,6 +1,6 @@
-// Operations: their codes, the one of zeros, equality, and what makes one bad.
+// Operations: their codes, and what makes one bad.
 ghost use Rattle.std.specs.Prelude.{◌≡◌};
-ghost use Rattle.request.specs.Operations.{span, same_operation, bad_operation};
+ghost use Rattle.request.specs.Operations.{span, bad_operation};
 
 use super::Operation;
 
@@ -37,13 +37,6 @@ fn span(o: Operation) -> usize
         return 0;
     }
     (o.q - o.r) as usize + 1
-}
-
-// Whether all fields of a and b are equal.
-pub fn same(a: Operation, b: Operation) -> bool
-    ensures { result ≡ same_operation a b }
-{
-    (a.code == b.code) & (a.r == b.r) & (a.q == b.q) & (a.amount == b.amount)
 }
 
 // Whether o is bad: by its registers, and then by its code, so that few tests are met on the way.

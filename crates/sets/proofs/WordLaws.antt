@@ -8,12 +8,15 @@ use lib.ListN.{length, take, drop, get_or, set, drop_of_length-le}
 use lib.Seq.{drop-cons, take-suc-set, drop-set-lt, append_snoc, take_all}
 use lib.Bits.{bit_and}
 use lib.Count.{count_trailing_zeros}
+use lib.Pointwise.{pointwise}
 use lib.Dec.{eqb}
 use borrow.Author.Tests.{eq-eqb, ne_eqb, eqb-true}
 use native.Mathlib.Omega.{arith}
 use Rattle.std.specs.List.{list_any}
 use Rattle.numbers.specs.Numbers.{numbered, no_number, most_events}
-use Rattle.sets.specs.Sets.{same_words, all_zero, lacked_words, lowest_from}
+use Rattle.sets.specs.declared.Context.{Context}
+use Rattle.sets.specs.contracts.ContextPartialEq.TheImpl as context_eq
+use Rattle.sets.specs.Sets.{same_words, same_context, all_zero, lacked_words, lowest_from}
 use Rattle.lists.proofs.BoolLaws.{true_not_false, both_true, both}
 
 -- ---- all zero
@@ -33,20 +36,17 @@ some-nonzero (w ∷ ws) = rw (some-nonzero ws) (go (eqb w 0))
 
 -- ---- equal
 
-module _ (xs ys : List ℕ) (i : ℕ) (hx : i < length xs) (hy : i < length ys) where
-  same_word : same_words (drop i xs) (drop i ys) ≡ eqb (get_or xs i 0) (get_or ys i 0) && same_words (drop (i + 1) xs) (drop (i + 1) ys)
-  unfolding same_words
-  same_word = rw (drop-cons xs i 0 hx, drop-cons ys i 0 hy, add-one)
-
-  pub same-passed : get_or xs i 0 ≡ get_or ys i 0 → same_words (drop i xs) (drop i ys) ≡ same_words (drop (i + 1) xs) (drop (i + 1) ys)
-  same-passed e = rw (same_word, eq-eqb (get_or xs i 0) (get_or ys i 0) e)
-
-  pub same_stopped : (get_or xs i 0 ≡ get_or ys i 0 → ⊥) → same_words (drop i xs) (drop i ys) ≡ false
-  same_stopped e = rw (same_word, ne_eqb (get_or xs i 0) (get_or ys i 0) e)
-
-pub same_end : (xs ys : List ℕ) (i : ℕ) → length xs ≤ i → length ys ≤ i → same_words (drop i xs) (drop i ys) ≡ true
+-- it is what the code's == says of lists, and so of sets
+pub equal_words : (xs ys : List ℕ) → pointwise eqb xs ys ≡ same_words xs ys
 unfolding same_words
-same_end xs ys i h k = rw (drop_of_length-le xs {i = i} h, drop_of_length-le ys {i = i} k)
+equal_words [] [] = refl
+equal_words [] (y ∷ ys) = refl
+equal_words (x ∷ xs) [] = refl
+equal_words (x ∷ xs) (y ∷ ys) = ap (λ b. eqb x y && b) (equal_words xs ys)
+
+pub equal_context : (a b : Context) → (context_eq.ghosts).eq a b ≡ same_context a b
+unfolding same_context
+equal_context a b = equal_words a.words b.words
 
 pub same_words_sound : (xs ys : List ℕ) → same_words xs ys ≡ true → xs ≡ ys
 unfolding same_words

@@ -3,16 +3,20 @@
 use Prim.Native.Nat.{ℕ, zero, suc, ◌+◌, ◌-◌, ◌*◌, ◌/◌, ◌%◌, ◌^◌, ◌≤◌, ◌<◌}
 use native.Mathlib.Omega.{arith}
 use native.Mathlib.Nat.{mod-lt, div-one, pow-suc, zero-lt-suc}
-use native.Mathlib.Numerals.{one-add}
+use native.Mathlib.Numerals.{add-one, one-add}
 use mathlib.Core.Path.{◌≡◌, refl, sym, ap, ◌∙◌}
 use mathlib.Core.Bool.{Bool, true, false, not, ◌&&◌}
 use mathlib.Core.List.{List}
-use lib.ListN.{get_or}
+use lib.ListN.{length, take, get_or}
+use lib.Seq.{take_all}
 use lib.Bits.{bit_and}
 use lib.Count.{ones, ones_in, ones_step}
 use lib.Pow.{shr-shr}
 use lib.Dec.{eqb}
 use borrow.Author.Tests.{eq-eqb, ne_eqb, not-true}
+use Rattle.std.specs.List.{zip, sum_by}
+use Rattle.std.proofs.lemmas.List.Sums.{sum_by_more}
+use Rattle.std.proofs.lemmas.Slice.Zip.{length-zip, get_or-zip}
 use Rattle.lists.specs.Lists.{one, count}
 use Rattle.lists.specs.Places.{All}
 use Rattle.lists.specs.Tally.{tally}
@@ -21,7 +25,7 @@ use Rattle.lists.proofs.ListLaws.{one_true, one_false}
 use Rattle.lists.proofs.AllLaws.{all_weaken, none_all}
 use Rattle.lists.proofs.MapLaws.{count_agree}
 use Rattle.lists.proofs.TallyLaws.{tally_agree, tally-add, tally_first, tally_most, tally-count}
-use Rattle.numbers.specs.Numbers.{most_events}
+use Rattle.numbers.specs.Numbers.{most_panels, most_events}
 use Rattle.sets.specs.Sets.{bit}
 use Rattle.sets.proofs.BitLaws.{bit_lacked}
 use Rattle.ordering.specs.Slots.{most_slots, IsSlot, in_words}
@@ -93,6 +97,28 @@ lacked-next words others i =
     (tally_agree most_events (λ k. named_beside words others (i * most_events + k))
     (λ k. bit k (get_or words i 0) && not (bit k (get_or others i 0)))
     (λ k h. rw (slot-bit words i k h, slot-bit others i k h))))
+
+-- what a word lacks of the one beside it
+abbrev pub lacked_of : ℕ × ℕ → ℕ
+lacked_of p = lacked_bits p.0 p.1
+
+lacked_upto : (words others : List ℕ) (n : ℕ) → n ≤ length words → n ≤ length others
+    → sum_by lacked_of (take n (zip words others)) ≡ tally (n * most_events) (named_beside words others)
+lacked_upto words others zero h k = refl
+lacked_upto words others (suc n) h k =
+    let inside : n < length (zip words others) = rw (length-zip words others) (omega arith) in
+    let pair = ap lacked_of (get_or-zip words others n (0, 0) (omega arith) (omega arith)) in
+    let more = sum_by_more lacked_of (zip words others) n (0, 0) inside in
+    let before = lacked_upto words others n (omega arith) (omega arith) in
+    rw (← add-one n) (more ∙ omega (arith, pair, before, lacked-next words others n))
+
+-- the numbers that one set has and the other lacks, word by word
+pub lacked_in_all : (words others : List ℕ) → length words ≡ most_panels → length others ≡ most_panels
+    → sum_by lacked_of (zip words others) ≡ lacked_count words others
+unfolding lacked_count
+lacked_in_all words others h k =
+    let all = take_all most_panels (zip words others) (rw (length-zip words others) (omega arith)) in
+    ap (sum_by lacked_of) (sym all) ∙ lacked_upto words others most_panels (omega arith) (omega arith)
 
 pub lacked-few : (words others : List ℕ) → lacked_count words others ≤ most_slots
 unfolding lacked_count

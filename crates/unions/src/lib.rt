@@ -6,30 +6,23 @@ ghost use Rattle.numbers.specs.Numbers.{most_panels};
 ghost use Rattle.unions.specs.Lacked.{lacked_bits, lacked_count};
 ghost use Rattle.unions.specs.Union.{United};
 
-const PANELS: usize = numbers::MOST_PANELS as usize;
-
 // How many bits the first word has that the second lacks.
 fn lacked_bits(word: u64, other: u64) -> usize
     ensures { result ≡ lacked_bits word other }
 {
     let lacked = word - (word & other);
-    u64::count_ones(lacked) as usize
+    lacked.count_ones() as usize
 }
 
 // How many numbers the first set has that the second lacks.
 pub fn lacked_count<'a>(words: &'a [u64; 8], others: &'a [u64; 8]) -> usize
     ensures { result ≡ lacked_count words.now others.now }
 {
-    let mut many = 0;
-    let mut i = 0;
-    while i < PANELS {
-        let word = words[i];
-        let other = others[i];
-        let lacked = lacked_bits(word, other);
-        many += lacked;
-        i += 1;
-    }
-    many
+    words
+        .iter()
+        .zip(others)
+        .map(|(word, other)| lacked_bits(*word, *other))
+        .sum()
 }
 
 // Puts the numbers of the second set into the first.
@@ -37,11 +30,7 @@ pub fn join_all(words: &mut [u64; 8], others: &[u64; 8])
     requires { length words.old ≡ most_panels }
     ensures { United words.old others.now words.new }
 {
-    let mut i = 0;
-    while i < PANELS {
-        let word = words[i];
-        let other = others[i];
-        words[i] = word | other;
-        i += 1;
+    for (i, other) in others.iter().enumerate() {
+        words[i] |= *other;
     }
 }

@@ -1,10 +1,7 @@
 -- `members::join_all` meets its contract; the laws of a turn are in `UnionLaws`.
 use native.Mathlib.Omega.{arith}
-use Rattle.unions.proofs.UnionLaws.{uniting_starts, uniting_on, uniting_ends}
+use Rattle.unions.proofs.UnionLaws.{uniting_on, uniting_ends}
 use Rattle.unions.proofs.join_all.Goals as goal
-
-pub loop-i-init : goal.loop-i-init
-loop-i-init c = uniting_starts _ _ c.requires
 
 pub loop-i-preserved : goal.loop-i-preserved
 loop-i-preserved c = uniting_on _ _ _ _ c.loop-i.invariant (omega arith)

@@ -1,11 +1,6 @@
 -- `members::join_all` meets its contract; the laws of a turn are in `UnionLaws`.
-use Prim.Native.Nat.{◌-◌}
-use Rattle.numbers.specs.Numbers.{most_panels}
 use Rattle.unions.proofs.UnionLaws.{Uniting}
 use Rattle.unions.proofs.join_all.Given as goal
 
 abbrev pub invariant-loop-i : goal.invariant-loop-i
 invariant-loop-i l = Uniting l.initial.words l.others l.words l.i
-
-abbrev pub decreases-loop-i : goal.decreases-loop-i
-decreases-loop-i l = most_panels - l.i
