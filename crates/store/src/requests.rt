@@ -3,13 +3,12 @@ ghost use Rattle.std.specs.Prelude.{◌≡◌, ◌*◌, length, get_or};
 ghost use Rattle.std.proofs.lemmas.List.Edits.{sets};
 ghost use Rattle.numbers.specs.Numbers.{most_panels};
 ghost use Rattle.numbers.specs.internal.Slots.{number_of};
-ghost use Rattle.sets.specs.Sets.{set_of, same_context};
 ghost use Rattle.request.specs.Request.{same_request};
 ghost use Rattle.ordering.specs.Slots.{IsSlot};
 ghost use Rattle.store.specs.Requests.{asked_in, context_at, request_of, request_at, most_words, WordAs, Long, Stored};
 
 use numbers::Clock;
-use request::{Asked, Request, asks};
+use request::{Asked, Request};
 use sets::Context;
 
 // One past the greatest number in eight bits.
@@ -23,9 +22,6 @@ const UNIT_Q: u64 = 65536;
 const UNIT_STRENGTH: u64 = 16777216;
 
 const UNIT_AMOUNT: u64 = 4294967296;
-
-// The words of a context.
-const WORDS: usize = numbers::MOST_PANELS as usize;
 
 // What a word says is asked for.
 fn asked_in(word: u64) -> Asked
@@ -59,13 +55,10 @@ pub fn context_at(contexts: &[u64; 4096], slot: usize) -> Context
     requires { IsSlot slot × (length contexts.now ≡ most_words) }
     ensures { result ≡ context_at contexts.now slot }
 {
-    let at = WORDS * slot;
+    let at = sets::WORDS * slot;
     let mut words = [0u64; 8];
-    let mut i = 0;
-    while i < WORDS {
-        let word = contexts[at + i];
-        words[i] = word;
-        i += 1;
+    for (i, word) in words.iter_mut().enumerate() {
+        *word = contexts[at + i];
     }
     Context { words }
 }
@@ -93,22 +86,16 @@ pub fn request_at<'a>(
     }
 }
 
-// Whether the context at a slot has those words.
-fn same_words<'a>(contexts: &'a [u64; 4096], slot: usize, words: &'a [u64; 8]) -> bool
-    requires { IsSlot slot × (length contexts.now ≡ most_words) × (length words.now ≡ most_panels) }
-    ensures { result ≡ same_context (context_at contexts.now slot) (set_of words.now) }
+// The request of a slot's number with that clock reading, what it asks for, and those words of its context.
+fn request_of(slot: u16, clock: Clock, asked: Asked, words: &[u64; 8]) -> Request
+    ensures { result ≡ request_of (number_of slot) clock asked words.now }
 {
-    let at = WORDS * slot;
-    let mut i = 0;
-    while i < WORDS {
-        let there = contexts[at + i];
-        let word = words[i];
-        if there != word {
-            return false;
-        }
-        i += 1;
+    Request {
+        number: numbers::number_of(slot),
+        clock,
+        asked,
+        context: Context { words: *words },
     }
-    true
 }
 
 // Whether the request at a slot is the one of the slot's number with that clock reading, what it asks for, and those words of its context.
@@ -125,12 +112,8 @@ pub fn same_at<'a>(
     ensures { result ≡ same_request (request_at clocks.now askings.now contexts.now slot)
         (request_of (number_of slot) clock asked words.now) }
 {
-    let s = slot as usize;
-    let reading = clocks[s];
-    let there = asked_at(askings, s);
-    let asking = asks::same(there, asked);
-    let named = same_words(contexts, s, words);
-    (reading == clock.0) & asking & named
+    let there = request_at(clocks, askings, contexts, slot);
+    there == request_of(slot, clock, asked, words)
 }
 
 // The word of what is asked for.
@@ -150,13 +133,10 @@ fn put_words<'a>(contexts: &mut [u64; 4096], slot: usize, words: &'a [u64; 8])
     requires { IsSlot slot × (length words.now ≡ most_panels) }
     ensures { contexts.new ≡ sets contexts.old (most_panels * slot) words.now }
 {
-    let at = WORDS * slot;
+    let at = sets::WORDS * slot;
     let read = *words;
-    let mut i = 0;
-    while i < WORDS {
-        let word = read[i];
-        contexts[at + i] = word;
-        i += 1;
+    for (i, word) in read.iter().enumerate() {
+        contexts[at + i] = *word;
     }
 }
 

@@ -31,7 +31,7 @@ loop-i-preserved c =
     let inside : most_panels * c.args.slot + most_panels ≤ length c.args.contexts.now = omega (arith, c.requires) in (
       omega arith,
       simp length-set v.invariant.1,
-      read_on (most_panels * c.args.slot) v.i c.args.contexts.now v.words most_panels (omega arith) inside ∙ v.invariant.2,
+      read_on (most_panels * c.args.slot) v.i c.args.contexts.now v.word-items most_panels (omega arith) inside ∙ v.invariant.2,
     )
 
 pub returns : goal.returns
@@ -43,4 +43,4 @@ returns c =
     let end : at + v.i ≡ at + most_panels = omega arith in
     let none : slice (at + v.i) (at + most_panels) l ≡ [] =
     ap (λ (k : ℕ). slice k (at + most_panels) l) end ∙ slice_empty (at + most_panels) l in
-    ap set_of (ap (sets v.words v.i) (sym none) ∙ v.invariant.2)
+    ap set_of (ap (sets v.word-items v.i) (sym none) ∙ v.invariant.2)

@@ -9,8 +9,5 @@ use Rattle.store.proofs.requests.context_at.Given as goal
 abbrev pub invariant-loop-i : goal.invariant-loop-i
 invariant-loop-i l =
     (l.i ≤ most_panels)
-    × (length l.words ≡ most_panels)
-    × (sets l.words l.i (slice (l.at + l.i) (l.at + most_panels) l.contexts) ≡ slice l.at (l.at + most_panels) l.contexts)
-
-abbrev pub decreases-loop-i : goal.decreases-loop-i
-decreases-loop-i l = most_panels - l.i
+    × (length l.word-items ≡ most_panels)
+    × (sets l.word-items l.i (slice (l.at + l.i) (l.at + most_panels) l.contexts) ≡ slice l.at (l.at + most_panels) l.contexts)

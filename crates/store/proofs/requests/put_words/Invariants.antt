@@ -8,7 +8,4 @@ use Rattle.store.proofs.requests.put_words.Given as goal
 
 abbrev pub invariant-loop-i : goal.invariant-loop-i
 invariant-loop-i l =
-    (l.i ≤ most_panels) × (sets l.contexts (l.at + l.i) (drop l.i l.read) ≡ sets l.initial.contexts l.at l.read)
-
-abbrev pub decreases-loop-i : goal.decreases-loop-i
-decreases-loop-i l = most_panels - l.i
+    (l.i ≤ most_panels) × (sets l.contexts (l.at + l.i) (drop l.i l.word-items) ≡ sets l.initial.contexts l.at l.word-items)
