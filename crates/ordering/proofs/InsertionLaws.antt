@@ -1,16 +1,17 @@
--- Laws of the place of a request, and of insertion there: a turn of the loop that carries elements on, and its end.
+-- Laws of the place of a request, and of insertion there by a copy of what stands from the place on.
 use Prim.Native.Nat.{ℕ, ◌+◌, ◌-◌, ◌≤◌, ◌<◌}
 use native.Mathlib.Omega.{arith}
-use native.Mathlib.Numerals.{add-one}
-use mathlib.Core.Path.{◌≡◌, ◌∙◌}
+use mathlib.Core.Path.{◌≡◌, sym, ap, ◌∙◌}
 use mathlib.Core.Bool.{true, not}
-use mathlib.Core.List.{List}
-use lib.ListN.{length, take, get_or, set}
-use lib.Seq.{slice, take-set-lt, take-suc-set, get_or-take, length-take-le}
+use mathlib.Core.List.{List, ◌∷◌, ◌++◌}
+use lib.ListN.{length, take, drop, get_or, set, length-set, length-drop, length-append, take-append-drop}
+use lib.Seq.{slice, take-set-lt, length-take-le, take-append-le, take-take, drop_at, drop-set-lt}
+use Rattle.std.specs.List.{copy_within}
+use Rattle.std.proofs.lemmas.List.{drop-take, take-set, drop-set}
+use Rattle.std.proofs.lemmas.List.Edits.{take-paste, drop-paste, length-paste}
 use borrow.Author.Tests.{not-true}
 use Rattle.lists.specs.Lists.{keep}
 use Rattle.lists.specs.Places.{insert_at}
-use Rattle.lists.proofs.PlaceLaws.{insert_at_carry, insert_at-end}
 use Rattle.lists.proofs.HalvesLaws.{halving_starts, halving_failed, halving_ends, passing_behind}
 use Rattle.ordering.specs.Slots.{comes_before}
 use Rattle.ordering.specs.Insertion.{PlaceAsks, place_for}
@@ -34,14 +35,47 @@ later_from_place clocks order from to clock slot h =
     let part = h.order.part in
     passing_behind (comes_before clocks clock slot) order 0 to (omega (arith, part)) (to - from) from (omega (arith, part)) h.split
 
--- ---- the loop of `insert_at`
+-- ---- an insertion: what stands from the place on is copied one place up, and the place is written
 
-module _ (n : ℕ) (xs : List ℕ) (i x : ℕ) (below : i < n) (inside : n ≤ length xs) where
-  pub carried_on : insert_at (i + 1) (get_or xs i 0) (take n (set xs i x)) ≡ insert_at i x (take n xs)
-  carried_on =
-      let fits : i < length (take n xs) = rw (length-take-le n xs inside) below in
-      rw (add-one i, take-set-lt n xs i x below, ← get_or-take n xs i 0 below) (insert_at_carry (take n xs) i x 0 fits)
+module _ (n : ℕ) (xs : List ℕ) (at s : ℕ) (place : at ≤ n) (room : n < length xs) where
+  abbrev moved : List ℕ
+  moved = copy_within xs at n (at + 1)
 
--- what is carried stands behind the last in the end
-pub carried-end : (n : ℕ) (xs : List ℕ) (x : ℕ) → n < length xs → take (n + 1) (set xs n x) ≡ insert_at n x (take n xs)
-carried-end n xs x h = rw (add-one n, take-suc-set xs n x h, insert_at-end n x xs)
+  -- those behind the place, which are copied
+  abbrev behind : List ℕ
+  behind = take (n - at) (drop at xs)
+
+  copied-end : at + 1 + (n - at) ≡ n + 1
+  copied-end = omega arith
+
+  enough : n - at ≤ length (drop at xs)
+  enough = simp length-drop (omega arith)
+
+  pub inserted-first : take (n + 1) (set moved at s) ≡ insert_at at s (take n xs)
+  unfolding insert_at
+  inserted-first =
+      let w = take (at + 1) xs ++ behind in
+      let front : length (take (at + 1) xs) ≡ at + 1 = length-take-le (at + 1) xs (omega arith) in
+      let long : length w ≡ n + 1 = length-append (take (at + 1) xs) behind ∙ omega (arith, front, length-take-le (n - at) (drop at xs) enough) in
+      let copied : take (n + 1) moved ≡ w =
+      ap (λ (k : ℕ). take k moved) (sym copied-end) ∙ take-paste xs (at + 1) (drop at xs) (n - at) (omega arith) enough in
+      let lower : take at w ≡ take at xs =
+      take-append-le at (take (at + 1) xs) behind (omega (arith, front)) ∙ take-take at (at + 1) xs (omega arith) in
+      let upper : drop (at + 1) w ≡ behind = drop_at (take (at + 1) xs) behind (at + 1) front in
+      let sum : at + (n - at) ≡ n = omega arith in
+      let rest : drop at (take n xs) ≡ behind = rw sum at (drop-take at (n - at) xs) in
+      let first : take at (take n xs) ≡ take at xs = take-take at n xs place in
+      let before : take at (set w at s) ≡ take at w = take-set w at s in
+      let from : drop at (set w at s) ≡ s ∷ drop (at + 1) w = drop-set w at s (omega (arith, long)) in
+      let both = take-append-drop at (set w at s) in
+      take-set-lt (n + 1) moved at s (omega arith) ∙ ap (λ (l : List ℕ). set l at s) copied ∙ cc
+
+  pub inserted-rest : drop (n + 1) (set moved at s) ≡ drop (n + 1) xs
+  inserted-rest =
+      drop-set-lt (n + 1) moved at s (omega arith)
+      ∙ ap (λ (k : ℕ). drop k moved) (sym copied-end)
+      ∙ drop-paste xs (at + 1) (drop at xs) (n - at) (omega arith) enough
+      ∙ ap (λ (k : ℕ). drop k xs) copied-end
+
+  pub inserted-long : length (set moved at s) ≡ length xs
+  inserted-long = length-set moved at s ∙ length-paste xs (at + 1) (drop at xs) (n - at) (omega arith) enough

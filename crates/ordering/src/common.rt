@@ -16,14 +16,11 @@ pub fn common_start<'a>(
     requires { PartsAsk xs.now n ys.now m at }
     ensures { result ≡ at + common_start eqb (slice at n xs.now) (slice at m ys.now) }
 {
-    let mut place = at;
-    while (place < n) & (place < m) {
-        let x = xs[place];
-        let y = ys[place];
-        if x != y {
+    let end = n.min(m);
+    for place in at..end {
+        if xs[place] != ys[place] {
             return place;
         }
-        place += 1;
     }
-    place
+    end
 }

@@ -24,6 +24,7 @@ pub fn place<'a>(
             return to;
         }
     }
+    // Not the library's `partition_point`: it calls its test of any number, and `comes_before` may be called of a slot alone.
     let mut low = from;
     let mut high = to;
     while low < high {
@@ -43,13 +44,6 @@ pub fn insert_at(xs: &mut [u16; 512], n: usize, at: usize, s: u16)
     requires { InsertionAsks xs.old n at }
     ensures { Inserted xs.old n at s xs.new }
 {
-    let mut carried = s;
-    let mut i = at;
-    while i < n {
-        let x = xs[i];
-        xs[i] = carried;
-        carried = x;
-        i += 1;
-    }
-    xs[n] = carried;
+    xs.copy_within(at..n, at + 1);
+    xs[at] = s;
 }

@@ -1,8 +1,7 @@
 // The standing order after a settlement: of the tentative slots those named in a context, then the settled request's own, then those
 // that stay tentative.
-ghost use Rattle.std.specs.Prelude.{◌≡◌, ◌<◌};
+ghost use Rattle.std.specs.Prelude.{◌≡◌};
 ghost use Rattle.std.proofs.Math.Seq.{paste};
-ghost use Rattle.ordering.specs.Slots.{most_slots, in_words};
 ghost use Rattle.slots.specs.Settlement.{SomeCounted, CountedEnd, SeparationAsks, Separated, PutAsks};
 ghost use Rattle.slots.specs.Settlement.{SettlementAsks, Settled, MovesAsk};
 
@@ -13,19 +12,6 @@ use super::front;
 pub struct SettledOrder {
     pub committed: usize,
     pub end: usize,
-}
-
-const EVENTS: u16 = numbers::MOST_EVENTS as u16;
-
-// Whether the number of slot t is in the set of these words.
-fn in_words(words: &[u64; 8], t: u16) -> bool
-    requires { t < most_slots }
-    ensures { result ≡ in_words words.now t }
-{
-    let panel = (t / EVENTS) as usize;
-    let bit = (t % EVENTS) as u64;
-    let word = words[panel];
-    (word >> bit) % 2 == 1
 }
 
 // The place behind the last that a settlement of that slot with that context moves, where `moving` of the places from `from` on move: goes
@@ -40,11 +26,12 @@ fn counted_end<'a>(
     requires { SomeCounted order.now from moving words.now slot }
     ensures { CountedEnd order.now from moving words.now slot result }
 {
+    // A while, since what ends it is that none is left to meet, and not a place.
     let mut end = from;
     let mut left = moving;
     while 0 < left {
         let t = order[end];
-        let named = in_words(words, t);
+        let named = members::has_slot(words, t);
         let moves = named | (slot == t);
         left -= moves as usize;
         end += 1;
@@ -67,16 +54,14 @@ fn separate(
 {
     let mut own = from;
     let mut count = 0;
-    let mut i = from;
-    while i < to {
+    for i in from..to {
         let t = order[i];
-        let named = in_words(words, t);
+        let named = members::has_slot(words, t);
         let stays = !(named | (slot == t));
         order[own] = t;
         staying[count] = t;
         own += named as usize;
         count += stays as usize;
-        i += 1;
     }
     own
 }
@@ -86,12 +71,7 @@ fn put_first(xs: &mut [u16; 512], at: usize, ys: &[u16; 512], n: usize)
     requires { PutAsks xs.old at ys.now n }
     ensures { xs.new ≡ paste xs.old at ys.now n }
 {
-    let mut i = 0;
-    while i < n {
-        let y = ys[i];
-        xs[at + i] = y;
-        i += 1;
-    }
+    xs[at..at + n].copy_from_slice(&ys[..n]);
 }
 
 // Puts the places from..end of the order into the order of a settlement of that slot with that context.

@@ -1,8 +1,7 @@
 -- `later::take_out` meets its contract. The invariant: taking out those from the place on still leads to the whole.
 use Prim.Native.Nat.{ℕ, ◌+◌}
 use native.Mathlib.Omega.{arith}
-use borrow.Author.Rules.{rules}
-use mathlib.Core.Path.{◌≡◌, refl, sym, ap, ◌∙◌}
+use mathlib.Core.Path.{◌≡◌, sym, ap, ◌∙◌}
 use lib.ListN.{get_or}
 use lib.Seq.{slice}
 use Rattle.sets.specs.declared.Context.{Context}
@@ -10,38 +9,30 @@ use Rattle.sets.specs.Sets.{set_of}
 use Rattle.ordering.specs.Slots.{IsSlot, without}
 use Rattle.ordering.proofs.SlotLaws.{part_slot, taken_out, without-next, without_end}
 use Rattle.ordering.proofs.later.take_out.Goals as goal
-use Rattle.ordering.proofs.later.take_out.Goals.{After-t-1}
-
-pub loop-at-init : goal.loop-at-init
-loop-at-init c = (omega arith, omega (arith, c.requires.rising), refl)
+use Rattle.ordering.proofs.later.take_out.Goals.{In-loop-at}
 
 -- what stands at the place is a slot
-slot_at : (c : After-t-1) → IsSlot (get_or c.args.order.now c.loop-at.at 0)
-slot_at c = part_slot _ _ _ _ c.requires (omega arith) (omega arith)
-
-pub overflow_cast-panel : goal.overflow_cast-panel
-overflow_cast-panel c = search (rules, slot_at (goal.at.overflow_cast-panel c).After-t-1)
-
-pub offset_bounds-words-panel : goal.offset_bounds-words-panel
-offset_bounds-words-panel c = search (rules, slot_at (goal.at.offset_bounds-words-panel c).After-t-1)
+slot_at : (c : In-loop-at) → IsSlot (get_or c.args.order.now c.loop-at.at 0)
+slot_at c = part_slot c.args.order.now c.args.from c.args.to c.loop-at.at c.requires (omega arith) (omega arith)
 
 pub bounds-words-panel : goal.bounds-words-panel
-bounds-words-panel c = search (rules, slot_at (goal.at.bounds-words-panel c).After-t-1)
-
-pub offset_bounds-words-panel-in-loop-at : goal.offset_bounds-words-panel-in-loop-at
-offset_bounds-words-panel-in-loop-at c = search (rules, slot_at (goal.at.offset_bounds-words-panel-in-loop-at c).After-t-1)
+bounds-words-panel c = omega (arith, slot_at (goal.at.bounds-words-panel c).In-loop-at)
 
 pub bounds-words-panel-in-loop-at : goal.bounds-words-panel-in-loop-at
-bounds-words-panel-in-loop-at c = search (rules, slot_at (goal.at.bounds-words-panel-in-loop-at c).After-t-1)
+bounds-words-panel-in-loop-at c = omega (arith, slot_at (goal.at.bounds-words-panel-in-loop-at c).In-loop-at)
+
+pub bounds-words-panel-in-loop-at-2 : goal.bounds-words-panel-in-loop-at-2
+bounds-words-panel-in-loop-at-2 c = omega (arith, slot_at (goal.at.bounds-words-panel-in-loop-at-2 c).In-loop-at)
 
 pub loop-at-preserved : goal.loop-at-preserved
 loop-at-preserved c =
     let v = c.loop-at in
-    let order = c.args.order.now in (
+    let order = c.args.order.now in
+    rw (c.digits-panel.ensures.panel, c.digits-panel.ensures.event) (
       omega arith,
       omega arith,
       ap (λ (s : Context). without s (slice (v.at + 1) c.args.to order))
-          (taken_out v.words (get_or order v.at 0) (slot_at (goal.at.loop-at-preserved c).After-t-1))
+          (taken_out v.words (get_or order v.at 0) (slot_at (goal.at.loop-at-preserved c).In-loop-at))
           ∙ sym (without-next order (set_of v.words) v.at c.args.to (omega arith) (omega (arith, c.requires.long, c.requires.inside)))
           ∙ v.invariant.2,
     )

@@ -1,5 +1,5 @@
 -- `later::take_out` meets its contract. The invariant: taking out those from the place on still leads to the whole.
-use Prim.Native.Nat.{◌-◌, ◌≤◌}
+use Prim.Native.Nat.{◌≤◌}
 use mathlib.Core.Path.{◌≡◌}
 use lib.Seq.{slice}
 use Rattle.sets.specs.Sets.{set_of}
@@ -9,6 +9,3 @@ use Rattle.ordering.proofs.later.take_out.Given as goal
 abbrev pub invariant-loop-at : goal.invariant-loop-at
 invariant-loop-at l =
     (l.from ≤ l.at) × (l.at ≤ l.to) × (without (set_of l.words) (slice l.at l.to l.order) ≡ without (set_of l.initial.words) (slice l.from l.to l.order))
-
-abbrev pub decreases-loop-at : goal.decreases-loop-at
-decreases-loop-at l = l.to - l.at
