@@ -4,8 +4,8 @@
 // over 63 changes nothing and responds 0. `set_all` and `off_board` serve rolling back in `registers`, too.
 #![tactic(auto)]
 
-ghost use Rattle.std.specs.Prelude.{◌≡◌, ◌+◌, ◌-◌, min, false, if◌then◌else◌};
-ghost use Rattle.effects.specs.Effect.{range, off_board, lowest_held, all_set, Executed};
+ghost use Rattle.std.specs.Prelude.{◌≡◌, false};
+ghost use Rattle.effects.specs.Effect.{off_board, lowest_held, all_set, Executed};
 ghost use Rattle.effects.specs.internal.OnBoard.{MoveOnBoard, ClaimOnBoard};
 ghost use Rattle.executing.specs.internal.OneRegister.{on_one_register, value_after, OneOnBoard, OtherOnBoard};
 
@@ -54,28 +54,29 @@ fn execute_one(registers: &mut [u32; 64], o: Operation) -> u32
     let before = registers[r];
     let after = value_after(code, before, o.amount);
     registers[r] = after;
-    chosen(code <= operations::SET, before, after)
+    if code <= operations::SET {
+        before
+    } else {
+        after
+    }
 }
 
 // What the register holds after an operation of that code and amount, where it held `before`.
 fn value_after(code: u8, before: u32, amount: u32) -> u32
     ensures { result ≡ value_after code before amount }
 {
-    let sum = std::num::wrapping_add_u32(before, amount);
     let claims = (code == operations::CLAIM) & (before == 0);
-    let claimed = chosen(claims, amount, before);
-    let added = chosen(code == operations::ADD, sum, claimed);
-    chosen(code == operations::SET, amount, added)
-}
-
-// The first of two numbers where the test is met, else the second.
-fn chosen(test: bool, a: u32, b: u32) -> u32
-    ensures { result ≡ (if test then a else b) }
-{
-    if test {
-        return a;
+    let claimed = if claims { amount } else { before };
+    let added = if code == operations::ADD {
+        before.wrapping_add(amount)
+    } else {
+        claimed
+    };
+    if code == operations::SET {
+        amount
+    } else {
+        added
     }
-    b
 }
 
 // Executes any other operation: a move, a claim of registers together, or nothing where the code is not known.
@@ -98,34 +99,16 @@ fn execute_move(registers: &mut [u32; 64], o: Operation) -> u32
     requires { MoveOnBoard o }
     ensures { Executed o registers.old registers.new result }
 {
-    let asked = o.amount;
     let r = o.r as usize;
     let q = o.q as usize;
     let source = registers[r];
     let target = registers[q];
-    let room = room_left(target);
-    let most = lesser(source, room);
-    let amount = lesser(asked, most);
+    let room = u32::MAX - target;
+    let most = source.min(room);
+    let amount = o.amount.min(most);
     registers[r] = source - amount;
     registers[q] = target + amount;
     amount
-}
-
-// The room left in a register that holds so much: with it the register is at its greatest value.
-fn room_left(held: u32) -> u32
-    ensures { held + result ≡ range - 1 }
-{
-    u32::MAX - held
-}
-
-// The lesser of two numbers.
-fn lesser(a: u32, b: u32) -> u32
-    ensures { result ≡ min a b }
-{
-    if a < b {
-        return a;
-    }
-    b
 }
 
 // Executes a claim of registers r to q: all become the amount, or none changes.
@@ -147,13 +130,12 @@ fn lowest_held(registers: &[u32; 64], o: Operation) -> u32
     ensures { result ≡ lowest_held o registers.now }
 {
     let end = o.q as usize + 1;
-    let mut k = o.r as usize;
-    let mut held = 0;
-    while (held == 0) & (k < end) {
-        held = registers[k];
-        k += 1;
+    for k in o.r as usize..end {
+        if registers[k] != 0 {
+            return registers[k];
+        }
     }
-    held
+    0
 }
 
 // Sets all of registers r to q to v.
@@ -162,10 +144,8 @@ pub fn set_all(registers: &mut [u32; 64], o: Operation, v: u32)
     ensures { registers.new ≡ all_set o v registers.old }
 {
     let end = o.q as usize + 1;
-    let mut at = o.r as usize;
-    while at < end {
+    for at in o.r as usize..end {
         registers[at] = v;
-        at += 1;
     }
 }
 

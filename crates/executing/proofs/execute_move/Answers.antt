@@ -3,11 +3,11 @@ use Rattle.std.proofs.Common.{◌≡◌, arith}
 use Rattle.effects.specs.Effect.{amount_moved, moved}
 use Rattle.effects.proofs.RegisterLaws.{on_board_is, executed-move}
 use Rattle.executing.proofs.execute_move.Goals as goal
-use Rattle.executing.proofs.execute_move.Goals.{After-lesser-amount}
+use Rattle.executing.proofs.execute_move.Goals.{After-min-amount}
 
-amount_is : (c : After-lesser-amount) → c.lesser-amount.result ≡ amount_moved c.args.o c.args.registers.now
+amount_is : (c : After-min-amount) → c.min-amount.result ≡ amount_moved c.args.o c.args.registers.now
 unfolding amount_moved
-amount_is c = omega (arith, c.lesser-amount.ensures, c.lesser-most.ensures, c.room_left-room.ensures)
+amount_is c = omega (arith, c.min-amount.ensures, c.min-most.ensures)
 
 pub bounds-registers-r : goal.bounds-registers-r
 bounds-registers-r c = omega (arith, on_board_is _ c.requires.on)

@@ -7,6 +7,3 @@ use Rattle.executing.proofs.set_all.Given as goal
 abbrev pub invariant-loop-at : goal.invariant-loop-at
 invariant-loop-at l =
     (l.end ≤ suc last_register) × (sets l.registers l.at (replicate (l.end - l.at) l.v) ≡ sets l.initial.registers l.initial.at (replicate (l.end - l.initial.at) l.v))
-
-abbrev pub decreases-loop-at : goal.decreases-loop-at
-decreases-loop-at l = l.end - l.at
