@@ -8,7 +8,8 @@ use native.Mathlib.Numerals.{add-one}
 use native.Mathlib.Omega.{arith}
 use lib.Dec.{lit<}
 use lib.ListN.{get_or, set, length, take, drop, length-append}
-use lib.Seq.{sets, append_snoc, get_or-append_seam, drop-cons}
+use lib.Seq.{sets, append_snoc, get_or-append_seam, drop-cons, get_or-take, get_or-drop}
+use Rattle.std.specs.Int.{from_le_bytes, w64}
 use Rattle.fields.specs.Integers.{integer_at, integer_bytes, widest}
 
 pub length-integer_bytes : (width v : ℕ) → length (integer_bytes width v) ≡ width
@@ -83,21 +84,23 @@ byte_put out at i width v p =
     let next : at + (i + 1) ≡ suc (at + i) = omega arith in
     rw (more, next)
 
--- ---- eight bytes as two halves
+-- ---- eight bytes as an array
 
-abbrev pub half : ℕ
-half = 4
+-- the k-th of the eight from `at` on
+byte_of : (s : List ℕ) (at k place : ℕ) → k < widest → at + k ≡ place → get_or (take widest (drop at s)) k 0 ≡ get_or s place 0
+byte_of s at k place h e = get_or-take widest (drop at s) k 0 h ∙ get_or-drop at s k 0 ∙ ap (λ (j : ℕ). get_or s j 0) e
 
-pub word_of_halves : (s : List ℕ) (at : ℕ) → integer_at s (at + half) half * 256 ^ half + integer_at s at half ≡ integer_at s at widest
+pub word_of_bytes : (s : List ℕ) (at : ℕ) → from_le_bytes w64 (take widest (drop at s)) ≡ integer_at s at widest
 unfolding integer_at
-word_of_halves s at =
-    let behind : at + half ≡ suc (suc (suc (suc at))) = omega arith in
-    rw behind (omega arith)
-
-pub halves_put : (out : List ℕ) (at v : ℕ)
-    → sets (sets out at (integer_bytes half v)) (at + half) (integer_bytes half (v / 256 ^ half)) ≡ sets out at (integer_bytes widest v)
-unfolding integer_bytes
-halves_put out at v =
-    let behind : at + half ≡ suc (suc (suc (suc at))) = omega arith in
-    let above : v / 256 ^ half ≡ v / 256 / 256 / 256 / 256 = omega arith in
-    rw (behind, above) refl
+word_of_bytes s at =
+    omega (
+      arith,
+      byte_of s at 0 at (lit< tt) (omega arith),
+      byte_of s at 1 (suc at) (lit< tt) (omega arith),
+      byte_of s at 2 (suc (suc at)) (lit< tt) (omega arith),
+      byte_of s at 3 (suc (suc (suc at))) (lit< tt) (omega arith),
+      byte_of s at 4 (suc (suc (suc (suc at)))) (lit< tt) (omega arith),
+      byte_of s at 5 (suc (suc (suc (suc (suc at))))) (lit< tt) (omega arith),
+      byte_of s at 6 (suc (suc (suc (suc (suc (suc at)))))) (lit< tt) (omega arith),
+      byte_of s at 7 (suc (suc (suc (suc (suc (suc (suc at))))))) (lit< tt) (omega arith),
+    )

@@ -69,12 +69,8 @@ pub fn words_at(words: &mut [u64; 8], s: &[u8], from: usize)
     requires { (length words.old ≡ most_panels) × (from + size context_widths ≤ length s.now) }
     ensures { words.new ≡ decode context_widths s.now from }
 {
-    let mut at = from;
-    let mut p = 0;
-    while p < places::WORDS {
-        words[p] = integers::word_at(s, at);
-        at += places::WORD_WIDTH;
-        p += 1;
+    for (p, word) in words.iter_mut().enumerate() {
+        *word = integers::word_at(s, from + places::WORD_WIDTH * p);
     }
 }
 

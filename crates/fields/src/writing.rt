@@ -45,11 +45,12 @@ pub fn put_context(out: &mut [u8], context: Context)
     requires { size strong_widths ≤ length out.old }
     ensures { out.new ≡ put out.old (size weak_widths) (encode context_widths context.words) }
 {
-    let mut to = places::CONTEXT_AT;
-    let mut p = 0;
-    while p < places::WORDS {
-        integers::put_word(out, to, context.words[p]);
-        to += places::WORD_WIDTH;
-        p += 1;
+    for (p, word) in context.words.iter().enumerate() {
+        integers::put_integer(
+            out,
+            places::CONTEXT_AT + places::WORD_WIDTH * p,
+            places::WORD_WIDTH,
+            *word,
+        );
     }
 }

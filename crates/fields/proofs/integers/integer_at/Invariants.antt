@@ -6,6 +6,3 @@ use Rattle.fields.proofs.integers.integer_at.Given as goal
 
 abbrev pub invariant-loop-i : goal.invariant-loop-i
 invariant-loop-i l = (l.i ≤ l.width) × (l.v ≡ integer_at l.s (l.at + l.i) (l.width - l.i)) × (l.v < 256 ^ (l.width - l.i))
-
-abbrev pub decreases-loop-i : goal.decreases-loop-i
-decreases-loop-i l = l.i

@@ -11,6 +11,3 @@ invariant-loop-i l =
     (l.i ≤ l.width)
     × (length l.out ≡ length l.initial.out)
     × (sets l.out (l.at + l.i) (integer_bytes (l.width - l.i) l.left) ≡ sets l.initial.out l.at (integer_bytes l.width l.v))
-
-abbrev pub decreases-loop-i : goal.decreases-loop-i
-decreases-loop-i l = l.width - l.i

@@ -1,5 +1,5 @@
 -- `reading::words_at` meets its contract: reading the words from the p-th on equals reading them all.
-use Prim.Native.Nat.{◌+◌, ◌-◌, ◌*◌, ◌≤◌}
+use Prim.Native.Nat.{◌+◌, ◌*◌}
 use mathlib.Core.Path.{◌≡◌}
 use lib.ListN.{length}
 use lib.Seq.{sets}
@@ -10,10 +10,5 @@ use Rattle.fields.proofs.reading.words_at.Given as goal
 
 abbrev pub invariant-loop-p : goal.invariant-loop-p
 invariant-loop-p l =
-    (l.p ≤ most_panels)
-    × (l.at ≡ l.from + word_width * l.p)
-    × (length l.words ≡ most_panels)
-    × (sets l.words l.p (decode (words_from l.p) l.s l.at) ≡ decode context_widths l.s l.from)
-
-abbrev pub decreases-loop-p : goal.decreases-loop-p
-decreases-loop-p l = most_panels - l.p
+    (length l.words ≡ most_panels)
+    × (sets l.words l.p (decode (words_from l.p) l.s (l.from + word_width * l.p)) ≡ decode context_widths l.s l.from)
