@@ -40,11 +40,11 @@ pub fn asked_at(s: &[u8], at: usize, strong: bool) -> Asked
     let r = s[at + places::R_AT];
     let q = s[at + places::Q_AT];
     Asked {
-        code: code,
-        r: r,
-        q: q,
-        strong: strong,
-        amount: amount,
+        code,
+        r,
+        q,
+        strong,
+        amount,
     }
 }
 
@@ -57,10 +57,10 @@ pub fn request_at(s: &[u8], at: usize, strong: bool, context: Context) -> Reques
     let clock = clock_at(s, at);
     let asked = asked_at(s, at, strong);
     Request {
-        number: number,
-        clock: clock,
-        asked: asked,
-        context: context,
+        number,
+        clock,
+        asked,
+        context,
     }
 }
 

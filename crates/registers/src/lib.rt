@@ -25,7 +25,7 @@ pub fn save(registers: &[u32; 64], o: Operation) -> Saved
     }
     let r = registers[o.r as usize];
     let q = registers[o.q as usize];
-    Saved { r: r, q: q }
+    Saved { r, q }
 }
 
 // Puts back what was saved before o.
@@ -65,5 +65,5 @@ pub fn saved_in(word: u64) -> Saved
 {
     let r = (word % RANGE) as u32;
     let q = (word / RANGE) as u32;
-    Saved { r: r, q: q }
+    Saved { r, q }
 }

@@ -88,10 +88,8 @@ pub fn put_registers(out: &mut [u8], at: usize, registers: &[u32]) -> usize
     ensures { Placed out.old at (register_lines registers.now) out.new result }
 {
     let mut p = at;
-    let mut i = 0;
-    while i < registers.len() {
-        p = put_register(out, p, i as u64, registers[i] as u64);
-        i += 1;
+    for (i, register) in registers.iter().enumerate() {
+        p = put_register(out, p, i as u64, *register as u64);
     }
     p
 }

@@ -1,13 +1,12 @@
 -- Laws of texts at places, in this order: one text behind another; a loop that puts a text piece by piece (`Left`); a loop that puts
 -- one byte after another.
-use Prim.Native.Nat.{ℕ, suc, ◌+◌, ◌<◌}
+use Prim.Native.Nat.{ℕ, suc, ◌+◌}
 use native.Mathlib.Nat.{add-zero}
-use native.Mathlib.Numerals.{add-one}
 use native.Mathlib.Omega.{arith}
 use mathlib.Core.Path.{◌≡◌, refl, sym, ap, ◌∙◌}
 use mathlib.Core.List.{List, [], ◌∷◌, ◌++◌}
-use lib.ListN.{length, get_or, set, drop, length-append}
-use lib.Seq.{sets, length-sets, drop-cons}
+use lib.ListN.{length, set, length-append}
+use lib.Seq.{sets, length-sets}
 use Rattle.text.specs.Placed.{Room, Placed}
 
 -- ---- one text behind another
@@ -80,11 +79,3 @@ left_room_rest r l = record { fits = omega (arith, l.place, l.size) }
 pub left_rest : {out text out₁ rest out₂ : List ℕ} {at at₁ at₂ : ℕ} → Placed out₁ at₁ rest out₂ at₂ → Left out at text out₁ at₁ rest
     → Placed out at text out₂ at₂
 left_rest w l = record { bytes = w.bytes ∙ l.bytes; place = w.place ∙ l.place }
-
--- ---- one byte after another: what is left to put before byte i is put and after
-
-pub byte_step : (out text : List ℕ) (at i : ℕ) → i < length text
-    → sets (set out (at + i) (get_or text i 0)) (at + (i + 1)) (drop (i + 1) text) ≡ sets out (at + i) (drop i text)
-byte_step out text at i h =
-    let e : at + (i + 1) ≡ suc (at + i) = omega arith in
-    rw (e, add-one, drop-cons text i 0)

@@ -23,12 +23,9 @@ pub fn put_bytes(out: &mut [u8], at: usize, bytes: &[u8]) -> usize
     requires { Room out.old at bytes.now }
     ensures { Placed out.old at bytes.now out.new result }
 {
-    let mut i = 0;
-    while i < bytes.len() {
-        out[at + i] = bytes[i];
-        i += 1;
-    }
-    at + i
+    let end = at + bytes.len();
+    out[at..end].copy_from_slice(bytes);
+    end
 }
 
 // Puts n in decimal.
@@ -56,10 +53,8 @@ pub fn end_line(out: &mut [u8], at: usize, ns: &[u64]) -> usize
     ensures { Placed out.old at (rest_of_line (numbers ns.now)) out.new result }
 {
     let mut p = at;
-    let mut i = 0;
-    while i < ns.len() {
-        p = put_labelled(out, p, b" ", ns[i]);
-        i += 1;
+    for n in ns {
+        p = put_labelled(out, p, b" ", *n);
     }
     put_byte(out, p, b'\n')
 }

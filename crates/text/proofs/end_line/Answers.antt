@@ -4,28 +4,25 @@ use Rattle.text.proofs.PlacedLaws.{left_start, left_room, left_step, left_room_r
 use Rattle.text.proofs.LineLaws.{rest_on, rest_end}
 use Rattle.text.proofs.end_line.Goals as goal
 
-pub loop-i-init : goal.loop-i-init
-loop-i-init c = record { inside = omega arith; left = left_start _ _ _ }
+pub loop-n-init : goal.loop-n-init
+loop-n-init c = left_start _ _ _
 
 pub put_labelled-p-requires : goal.put_labelled-p-requires
 put_labelled-p-requires c =
-    let l = c.loop-i in
-    left_room _ _ c.requires (rw (rest_on c.args.ns.now l.i (omega arith)) at l.invariant.left)
+    let l = c.loop-n in
+    left_room _ _ c.requires (rw (rest_on c.args.ns.now l.n-index (omega arith)) at l.invariant)
 
-pub loop-i-preserved : goal.loop-i-preserved
-loop-i-preserved c =
-    let l = c.loop-i in
-    record {
-      inside = omega arith;
-      left = left_step _ c.put_labelled-p.ensures (rw (rest_on c.args.ns.now l.i (omega arith)) at l.invariant.left);
-    }
+pub loop-n-preserved : goal.loop-n-preserved
+loop-n-preserved c =
+    let l = c.loop-n in
+    left_step _ c.put_labelled-p.ensures (rw (rest_on c.args.ns.now l.n-index (omega arith)) at l.invariant)
 
 pub put_byte-requires : goal.put_byte-requires
 put_byte-requires c =
-    let l = c.loop-i in
-    left_room_rest c.requires (rw (rest_end c.args.ns.now l.i (omega arith)) at l.invariant.left)
+    let l = c.loop-n in
+    left_room_rest c.requires (rw (rest_end c.args.ns.now l.n-index (omega arith)) at l.invariant)
 
 pub returns : goal.returns
 returns c =
-    let l = c.loop-i in
-    left_rest c.put_byte.ensures (rw (rest_end c.args.ns.now l.i (omega arith)) at l.invariant.left)
+    let l = c.loop-n in
+    left_rest c.put_byte.ensures (rw (rest_end c.args.ns.now l.n-index (omega arith)) at l.invariant)

@@ -1,24 +1,21 @@
--- `put_bytes` meets its contract: what is still to be put from byte i on makes of out what the whole run makes of it.
-use Prim.Native.Nat.{◌≤◌}
-use native.Mathlib.Nat.{add-zero}
+-- `put_bytes` meets its contract: a copy into the part that the bytes fill puts them there.
 use native.Mathlib.Omega.{arith}
-use mathlib.Core.Path.{refl, ◌∙◌}
-use lib.ListN.{length, length-set, drop_of_length-le}
-use Rattle.text.proofs.PlacedLaws.{byte_step}
+use Prim.Native.Nat.{◌+◌, ◌-◌}
+use mathlib.Core.Path.{◌≡◌, refl, sym, ◌∙◌}
+use lib.ListN.{length}
+use lib.Seq.{paste, sets, sets-eq, take-length}
+use Rattle.std.proofs.lemmas.Slice.{put_mid-paste}
 use Rattle.text.proofs.put_bytes.Goals as goal
-
-pub loop-i-init : goal.loop-i-init
-loop-i-init c = (omega arith, refl, simp add-zero)
-
-pub loop-i-preserved : goal.loop-i-preserved
-loop-i-preserved c =
-    let a = c.args in
-    let l = c.loop-i in
-    (omega arith, simp length-set l.invariant.1, byte_step l.out a.bytes.now a.at l.i (omega arith) ∙ l.invariant.2)
 
 pub returns : goal.returns
 returns c =
-    let a = c.args in
-    let l = c.loop-i in
-    let e : length a.bytes.now ≤ l.i = omega arith in
-    record { bytes = rw (drop_of_length-le a.bytes.now e) at l.invariant.2; place = omega arith }
+    let out = c.args.out.now in
+    let at = c.args.at in
+    let bytes = c.args.bytes.now in
+    let long : length bytes ≡ at + length bytes - at = omega arith in
+    let pasted : paste out at bytes (length bytes) ≡ sets out at bytes =
+    rw take-length (sym (sets-eq bytes out at c.requires.fits)) in
+    record {
+      bytes = put_mid-paste _ _ _ _ bytes (length bytes) c.copy_from_slice.ensures.after long refl ∙ pasted;
+      place = refl;
+    }
