@@ -66,7 +66,7 @@ fn execute_all(p: &mut Panel, undos: u32) -> DueSteps
         let operation = asks::operation(asked);
         let before = registers::save(&p.registers, operation);
         let word = registers::saved_word(before);
-        let response = executing::execute_due(&mut p.registers, operation);
+        let response = executing::execute(&mut p.registers, operation);
         let next = board::put_on(p, at, slot, asked.strong, word, response);
         if next.mark == NOBODY {
             continue;

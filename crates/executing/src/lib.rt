@@ -1,7 +1,7 @@
 // Executing an operation on the 64 registers, as `exec` and `response` of `effects` say.
 //
-// Every function takes any operation that its contract lets in; `execute` and `execute_due` take any at all: one that names a register
-// over 63 changes nothing and responds 0. `set_all` and `off_board` serve rolling back in `registers`, too.
+// Every function takes any operation that its contract lets in; `execute` takes any at all: one that names a register over 63 changes
+// nothing and responds 0. `set_all` and `off_board` serve rolling back in `registers`, too.
 #![tactic(auto)]
 
 ghost use Rattle.std.specs.Prelude.{◌≡◌, false};
@@ -11,7 +11,8 @@ ghost use Rattle.executing.specs.internal.OneRegister.{on_one_register, value_af
 
 use request::{Operation, operations};
 
-// Executes o on the registers, and returns its response.
+// Executes o on the registers, and returns its response. It is put where it is called, since it stands in the loop of all due steps.
+#[inline(always)]
 pub fn execute(registers: &mut [u32; 64], o: Operation) -> u32
     ensures { Executed o registers.old registers.new result }
 {
@@ -22,19 +23,6 @@ pub fn execute(registers: &mut [u32; 64], o: Operation) -> u32
         return execute_one(registers, o);
     }
     execute_other(registers, o)
-}
-
-// The same for the loop of all due steps, which is its one caller: the compiler puts such a function where it is called, whatever its size.
-pub fn execute_due(registers: &mut [u32; 64], o: Operation) -> u32
-    ensures { Executed o registers.old registers.new result }
-{
-    if off_board(o) {
-        return 0;
-    }
-    if !on_one_register(o.code) {
-        return execute_other(registers, o);
-    }
-    execute_one(registers, o)
 }
 
 // Whether an operation of that code is on one register: read, set, add or claim.

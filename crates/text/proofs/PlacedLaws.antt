@@ -1,5 +1,4 @@
--- Laws of texts at places, in this order: one text behind another; a loop that puts a text piece by piece (`Left`); a loop that puts
--- one byte after another.
+-- Laws of texts at places, in this order: one text behind another; a loop that puts a text piece by piece (`Left`).
 use Prim.Native.Nat.{ℕ, suc, ◌+◌}
 use native.Mathlib.Nat.{add-zero}
 use native.Mathlib.Omega.{arith}

@@ -6,10 +6,10 @@ use Rattle.due.proofs.execute_all.Goals as goal
 use Rattle.due.proofs.execute_all.Goals.{After-put_on-next}
 
 next : (c : After-put_on-next)
-    → Next c.loop-at.p c.loop-at.at c.execute_due-response.new.registers c.put_on-next.new.p c.put_on-next.result
+    → Next c.loop-at.p c.loop-at.at c.execute-response.new.registers c.put_on-next.new.p c.put_on-next.result
 next c =
     next_by c.loop-at.p c.loop-at.at c.asked_at-asked.ensures c.operation-operation.ensures c.save-before.ensures
-    c.saved_word-word.ensures c.execute_due-response.ensures c.put_on-next.ensures
+    c.saved_word-word.ensures c.execute-response.ensures c.put_on-next.ensures
 
 pub loop-at-init : goal.loop-at-init
 loop-at-init c = execute_start c.args.p.now c.requires.inv c.requires.nothing_to_undo _ c.no_reply-replies.ensures
