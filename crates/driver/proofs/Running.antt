@@ -33,11 +33,6 @@ pub record Running (p : State) (s : List ℕ) (count : ℕ) (out out₁ : List �
   pub state : run_entries (model q) (entries_from s at (count - i)) ≡ run_entries (model p) (entries_of s)
   pub answers : Left out 0 (answers_bytes (model p) (entries_of s)) out₁ behind (answers_bytes (model q) (entries_from s at (count - i)))
 
--- the panel there
-abbrev pub panel_in : {p : State} {s : List ℕ} {count : ℕ} {out out₁ : List ℕ} {q : State} {at behind i : ℕ}
-    → Running p s count out out₁ q at behind i → State
-panel_in {q = q} now = q
-
 pub run_start : (p : State) (s : List ℕ) (count : ℕ) (out : List ℕ) → Inv p → count ≡ call_count s
     → Running p s count out out p calls_at 0 0
 unfolding entries_of

@@ -22,7 +22,7 @@ use Rattle.wire.specs.Message.{kind_of, front_of, run_of, behind_of, contents, w
 use Rattle.wire.specs.Message.{weak_with_context}
 use Rattle.wire.specs.Reader.{length_at, kind_at, run_at, fields_at, spare_set, refusal_as, read_as, read_at}
 use Rattle.intake.specs.Intake.{call_of}
-use Rattle.encoding.specs.Encoding.{message_at, message_of, invocation_of, call_at, entry_at, entries_from, call_count, entries_of}
+use Rattle.encoding.specs.Encoding.{message_at, invocation_of, call_at, entry_at, entries_from, call_count, entries_of}
 use Rattle.encoding.specs.Encoding.{one, all_due, after, answer_to}
 use Rattle.encoding.specs.Encoding.{message_bytes, head_bytes, answer_bytes, answers_bytes, fresh_of}
 
@@ -48,7 +48,7 @@ unfolding same_number bad_number bad_operation bad_asked before all_zero is_empt
     execute_refusal last_event last_clock entered at_least made invoke_refusal execution_mark execution_reply accepted_answer answer_of
     accepted_awaiting integer_at integer_bytes kind_with layout widths_with least_size most_size decode encode kind_of front_of run_of behind_of
     contents widths_of size_of fields_of bytes_of message_from weak_with_context length_at kind_at run_at fields_at
-    spare_set refusal_as read_as read_at message_at message_of invocation_of call_of call_at entry_at entries_from call_count entries_of after answer_to
+    spare_set refusal_as read_as read_at message_at invocation_of call_of call_at entry_at entries_from call_count entries_of after answer_to
     message_bytes head_bytes answer_bytes answers_bytes
 made_and_carried_out = refl
 

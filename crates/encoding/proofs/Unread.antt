@@ -60,7 +60,7 @@ unread-kept p q o r none stays same got = record {
 
 kept_by : (p q : State) (o : Outcome) (r : Receipt) → ((m : BusMessage) (n : ℕ) → o ≡ message m n → least_message ≤ n)
     → Received p o r q → Kept p (call_of (message_of o)) (record { answer = receipt_answer r; state = q })
-unfolding message_of answer_to received is_taken_in
+unfolding answer_to received is_taken_in
 kept_by p q (message m n) r least got =
     let some : r.taken ≡ 0 → ⊥ = λ none. omega (arith, least m n refl, got.taken, none) in
     rw (ne_eqb r.taken 0 some)

@@ -10,7 +10,7 @@ use super::calls;
 use creek::{Answer, Reply, mark};
 use intake::Receipt;
 use request::Request;
-use request::refusal::Refusal;
+use request::refusal::{self, Refusal};
 use wire::Message;
 use wire::layout::LONGEST_MESSAGE;
 
@@ -30,9 +30,9 @@ fn answer_in(r: Receipt) -> Answer
     ensures { result ≡ receipt_answer r }
 {
     if r.taken == 0 {
-        return replica::refused(u8::from(Refusal::BadNumber));
+        return Answer::from(replica::told(Err(Refusal::BadNumber)));
     }
-    replica::answer_of(r.reply)
+    Answer::from(r.reply)
 }
 
 // Puts the answer to what a receipt tells of and returns the place behind it.
@@ -49,8 +49,13 @@ pub fn put_steps(out: &mut [u8], at: usize, steps: u32) -> usize
     requires { at + answer_size ≤ length out.old }
     ensures { Placed out.old at (answer_bytes (reply no_number steps no_mark)) out.new result }
 {
-    let answer = replica::reply(numbers::none(), steps, mark::NOBODY);
-    put_answer(out, at, answer)
+    let counted = Reply {
+        response: steps,
+        number: numbers::none(),
+        mark: mark::NOBODY,
+        refusal: refusal::ACCEPTED,
+    };
+    put_reply(out, at, counted)
 }
 
 // Puts the answer that a reply is and returns the place behind it.
@@ -58,8 +63,7 @@ pub fn put_reply(out: &mut [u8], at: usize, r: Reply) -> usize
     requires { at + answer_size ≤ length out.old }
     ensures { Placed out.old at (answer_bytes (reply_answer r)) out.new result }
 {
-    let answer = replica::answer_of(r);
-    put_answer(out, at, answer)
+    put_answer(out, at, Answer::from(r))
 }
 
 // Puts an answer and returns the place behind it.

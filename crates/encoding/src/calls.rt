@@ -1,14 +1,11 @@
 // Where the calls stand in a run of bytes, and what of one is read.
 ghost use Rattle.std.specs.Prelude.{◌≡◌, get_or};
-ghost use Rattle.replica.specs.Promises.{Fresh};
-ghost use Rattle.replica.specs.internal.Parts.{opened_with_zeros};
 ghost use Rattle.encoding.specs.Encoding.{panels_of, own_of, call_count, message_at, message_of, request_in, invocation_of};
 ghost use Rattle.wire.specs.Reader.{outcome_of};
-ghost use Rattle.encoding.specs.internal.Running.{is_step};
+ghost use Rattle.encoding.specs.internal.Running.{step_with};
 
 use creek::Invocation;
 use numbers::PanelNo;
-use replica::Shop;
 use request::Request;
 use request::refusal::Refusal;
 use wire::layout::LONGEST_MESSAGE;
@@ -24,13 +21,30 @@ pub const CALLS_AT: usize = 2;
 // The bytes of a call: the tag and room for the longest bus message.
 pub const CALL_SIZE: usize = 1 + LONGEST_MESSAGE;
 
+// The tag of a message that is made; any other that is not a step's is that of one which is heard or settled.
 pub const INVOKE: u8 = 1;
 
-pub const UNDO: u8 = 2;
+// A step that a list asks for, or all due steps, by its tag.
+#[derive(Clone, Copy, PartialEq, Eq)]
+pub enum Step {
+    Undo,
+    Execute,
+    AllDue,
+}
 
-pub const EXECUTE: u8 = 3;
-
-pub const ALL_DUE: u8 = 4;
+impl Step {
+    // The step of that tag, where it is one's.
+    pub fn with_tag(tag: u8) -> Option<Step>
+        ensures { result ≡ step_with tag }
+    {
+        match tag {
+            2 => Some(Step::Undo),
+            3 => Some(Step::Execute),
+            4 => Some(Step::AllDue),
+            _ => None,
+        }
+    }
+}
 
 // The byte at a place, 0 where there is none.
 pub fn byte_at(s: &[u8], at: usize) -> u8
@@ -46,20 +60,11 @@ pub fn call_count(s: &[u8]) -> usize
     s.len().saturating_sub(CALLS_AT) / CALL_SIZE
 }
 
-// The shop that `s` asks for, as it is opened.
-pub fn shop_in(s: &[u8]) -> Shop
-    ensures { Fresh (panels_of s.now) (own_of s.now) (opened_with_zeros result) }
+// The shop that `s` asks for: its number of panels and the own one.
+pub fn shop_in(s: &[u8]) -> (u8, PanelNo)
+    ensures { (result.0 ≡ panels_of s.now) × (result.1.0 ≡ own_of s.now) }
 {
-    let panels = byte_at(s, PANELS_AT);
-    let own = byte_at(s, OWN_AT);
-    replica::shop_of(panels, PanelNo(own))
-}
-
-// The tag is that of a step, or of all due steps.
-pub fn is_step(tag: u8) -> bool
-    ensures { result ≡ is_step tag }
-{
-    (tag == UNDO) | (tag == EXECUTE) | (tag == ALL_DUE)
+    (byte_at(s, PANELS_AT), PanelNo(byte_at(s, OWN_AT)))
 }
 
 // What is asked for by the request whose message stands at a place, with its clock reading; zeros, where none stands there.

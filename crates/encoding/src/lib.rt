@@ -8,4 +8,4 @@ pub mod answers;
 pub mod calls;
 
 pub use answers::{put_answer, put_receipt, put_reply, put_steps, tight};
-pub use calls::{call_count, invocation_at, is_step, shop_in};
+pub use calls::{Step, call_count, invocation_at, shop_in};

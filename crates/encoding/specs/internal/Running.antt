@@ -1,5 +1,5 @@
--- The run of a list of entries as functions over the parts of a panel and proofs speak of it, and the calls that entries stand for.
-use Rattle.std.specs.Prelude.{ℕ, ◌≡◌, Bool, ◌||◌, cond, List, [], ◌∷◌, ◌++◌, eqb}
+-- The run of a list of entries as functions on a panel and proofs speak of it, and the calls that entries stand for.
+use Rattle.std.specs.Prelude.{ℕ, ◌≡◌, cond, if◌then◌else◌, Option, Some, None, List, [], ◌∷◌, ◌++◌, eqb}
 use Rattle.std.proofs.lemmas.List.Edits.{sets}
 use Rattle.text.specs.Placed.{Placed}
 use Rattle.numbers.specs.Numbers.{no_number}
@@ -13,6 +13,8 @@ use Rattle.creek.specs.Replies.{refused_with, reply_answer}
 use Rattle.replica.specs.State.{State, Called}
 use Rattle.replica.specs.internal.Model.{Inv, model}
 use Rattle.intake.specs.declared.Receipt.{Receipt}
+use Rattle.encoding.specs.declared.calls.Step.{Step}
+use Rattle.encoding.specs.declared.calls.Step.TheVariants.{Undo, Execute, AllDue}
 use Rattle.encoding.specs.Encoding.{undo_tag, execute_tag, all_due_tag, Entry, one, all_due, entries_of}
 use Rattle.encoding.specs.Encoding.{after, answer_to, answer_bytes, answers_bytes}
 
@@ -33,20 +35,16 @@ pub record EntryPut (p : State) (x : Entry) (out : List ℕ) (at : ℕ) (q : Sta
   pub state : model q ≡ after (model p) x
   pub invariant : Inv q
 
--- the same of every panel with the parts that are lent, as they were before and are after
-pub record DoneBy (before after : State → State) (x : Entry) (a : Answer) : Type 0 where
-  pub done : (p : State) → Inv (before p) → Done (before p) x (record { answer = a; state = after p })
+-- the step of that tag, where it is one's
+abbrev pub step_with : ℕ → Option Step
+step_with tag =
+    if eqb tag undo_tag then Some Undo else (if eqb tag execute_tag then Some Execute else (if eqb tag all_due_tag then Some AllDue else None))
 
-pub record PutBy (before after : State → State) (x : Entry) (out : List ℕ) (at : ℕ) (out' : List ℕ) (behind : ℕ) : Type 0 where
-  pub put : (p : State) → Inv (before p) → EntryPut (before p) x out at (after p) out' behind
-
--- the tag is that of a step, or of all due steps
-abbrev pub is_step : ℕ → Bool
-is_step tag = (eqb tag undo_tag || eqb tag execute_tag) || eqb tag all_due_tag
-
--- what the tag of a step asks for
-abbrev pub step_entry : ℕ → Entry
-step_entry tag = cond {A = Entry} (eqb tag all_due_tag) all_due (one (cond {A = Call} (eqb tag undo_tag) undo execute))
+-- what a step asks for
+abbrev pub step_entry : Step → Entry
+step_entry Undo = one undo
+step_entry Execute = one execute
+step_entry AllDue = all_due
 
 -- the answer that a receipt leads to: a message that could not be read is heard as the request of zeros, whose number is bad
 abbrev pub receipt_answer : Receipt → Answer

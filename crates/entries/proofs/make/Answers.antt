@@ -1,14 +1,12 @@
 -- `make` meets its contract.
 use mathlib.Core.Path.{ap, sym}
+use Rattle.creek.specs.declared.Invocation.{Invocation}
 use Rattle.creek.specs.Book.{invoke}
-use Rattle.encoding.proofs.CallLaws.{put-kept}
+use Rattle.encoding.specs.Encoding.{one}
+use Rattle.encoding.proofs.CallLaws.{put-kept, put_as}
 use Rattle.entries.proofs.make.Goals as goal
 
-pub invoke-answer-requires : goal.invoke-answer-requires
-invoke-answer-requires c = c.requires.invoke_asks
-
-pub put_answer-requires : goal.put_answer-requires
-put_answer-requires c = c.requires.answer_size_in_bounds
-
 pub returns : goal.returns
-returns c = put-kept (ap invoke (sym c.invocation_at-asked.ensures)) c.invoke-answer.ensures c.put_answer.ensures
+returns c =
+    put_as (ap (λ (i : Invocation). one (invoke i)) (sym c.invocation_at-asked.ensures))
+    (put-kept c.invoke-made.ensures.kept (rw c.made_answer.ensures at c.put_answer.ensures))

@@ -30,7 +30,7 @@ returns-in-Ok-Some c =
     let told = reads (goal.at.returns-in-Ok-Some c).In-Ok-Some in
     let reply = c.take_at-reply.ensures in (
       receive-message told (c.number_at-number.ensures ∙ sym (number-told _ _ _ _ told))
-      (c.from.ensures ∙ ap kind_number (sym ((kind_laws _).kind_kept _))) reply.kept,
+          (c.from.ensures ∙ ap kind_number (sym ((kind_laws _).kind_kept _))) reply.kept,
       reply.spare,
     )
 

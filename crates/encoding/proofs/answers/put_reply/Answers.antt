@@ -2,4 +2,4 @@
 use Rattle.encoding.proofs.answers.put_reply.Goals as goal
 
 pub returns : goal.returns
-returns c = rw c.answer_of-answer.ensures at c.put_answer.ensures
+returns c = rw c.from.ensures at c.put_answer.ensures

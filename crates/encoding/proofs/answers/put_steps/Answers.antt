@@ -2,4 +2,4 @@
 use Rattle.encoding.proofs.answers.put_steps.Goals as goal
 
 pub returns : goal.returns
-returns c = rw (rw c.none.ensures at c.reply-answer.ensures) at c.put_answer.ensures
+returns c = rw c.none.ensures at c.put_reply.ensures
