@@ -36,13 +36,10 @@ pub const AMOUNT_AT: usize = SPARE_AT + BYTE;
 
 pub const CONTEXT_AT: usize = AMOUNT_AT + AMOUNT_WIDTH;
 
-// The words of a context.
-pub const WORDS: usize = 8;
-
 pub const HEAD_SIZE: usize = PANEL_AT;
 
 pub const SETTLEMENT_SIZE: usize = CLOCK_AT;
 
 pub const WEAK_SIZE: usize = CONTEXT_AT;
 
-pub const STRONG_SIZE: usize = CONTEXT_AT + WORDS * WORD_WIDTH;
+pub const STRONG_SIZE: usize = CONTEXT_AT + sets::WORDS * WORD_WIDTH;

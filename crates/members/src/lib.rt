@@ -21,7 +21,7 @@ pub fn member(words: &[u64; 8], n: Number) -> bool
     (words[n.panel.0 as usize] >> bit) % 2 == 1
 }
 
-// Whether the number of a slot of the table is in the set, by the slot's digits: a slot's number is good, so that there is nothing to test.
+// Whether the number of a slot of the table is in the set, by the slot's digits: it is good, so that there is nothing to test.
 pub fn has_slot(words: &[u64; 8], slot: u16) -> bool
     requires { slot < most_panels * most_events }
     ensures { result ≡ member_of (set_of words.now) (number_of slot) }

@@ -61,7 +61,7 @@ const EVENTS: u16 = MOST_EVENTS as u16;
 
 pub const SLOTS: u16 = PANELS * EVENTS;
 
-// The two digits of a slot: its panel, which has a word of a set, and the place of its event among the panel's, which has a bit of that word.
+// The two digits of a slot: its panel, which has a word of a set, and the place of its event among the panel's, which has a bit there.
 pub fn digits(slot: u16) -> (usize, u64)
     ensures panel { result.0 ≡ slot / most_events }
     ensures event { result.1 ≡ slot % most_events }
@@ -75,12 +75,8 @@ pub fn digits(slot: u16) -> (usize, u64)
 pub fn slot_of(n: Number) -> u16
     ensures { result ≡ slot_of n }
 {
-    let panel = n.panel.0 as u16;
     let event = n.event.0 as u16;
-    if event == 0 {
-        return panel * EVENTS;
-    }
-    panel * EVENTS + (event - 1)
+    n.panel.0 as u16 * EVENTS + event.saturating_sub(1)
 }
 
 // The number whose slot is `slot`; a slot past the table counts round.

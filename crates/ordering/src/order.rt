@@ -7,7 +7,5 @@ pub(crate) fn comes_before(clocks: &[u32; 512], clock: u32, slot: u16, t: u16) -
     requires { ComparisonAsks clocks.now t }
     ensures { result ≡ comes_before clocks.now clock slot t }
 {
-    let place = t as usize;
-    let other = clocks[place];
-    (clock < other) | ((clock == other) & (slot < t))
+    (clock, slot) < (clocks[t as usize], t)
 }

@@ -128,7 +128,8 @@ fn word_of(a: Asked) -> u64
     code + UNIT_R * r + UNIT_Q * q + UNIT_STRENGTH * strength + UNIT_AMOUNT * amount
 }
 
-// Puts the words of a context at a slot; they are all read before any is written, by which the compiler moves several at once.
+// Puts the words of a context at a slot; they are all read before any is written, by which the compiler moves several at once: the
+// library's `copy_from_slice` would test whether the two overlap.
 fn put_words<'a>(contexts: &mut [u64; 4096], slot: usize, words: &'a [u64; 8])
     requires { IsSlot slot × (length words.now ≡ most_panels) }
     ensures { contexts.new ≡ sets contexts.old (most_panels * slot) words.now }

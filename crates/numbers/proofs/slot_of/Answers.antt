@@ -3,10 +3,6 @@ use native.Mathlib.Omega.{arith}
 use Rattle.numbers.specs.internal.Slots.{slot_of}
 use Rattle.numbers.proofs.slot_of.Goals as goal
 
-pub returns-then-event-eq0 : goal.returns-then-event-eq0
-unfolding slot_of
-returns-then-event-eq0 c = omega arith
-
 pub returns : goal.returns
 unfolding slot_of
 returns c = omega arith
