@@ -74,29 +74,12 @@ pub fn words_at(words: &mut [u64; 8], s: &[u8], from: usize)
     }
 }
 
-// The context of a strong request at a place, word by word, by which the compiler takes each from the bytes to where it is wanted.
+// The context of a strong request at a place.
 pub fn context_at(s: &[u8], at: usize) -> Context
     requires { at + size strong_widths ≤ length s.now }
     ensures { result ≡ set_of (decode context_widths s.now (at + size weak_widths)) }
 {
-    let first = at + places::CONTEXT_AT;
-    let second = first + places::WORD_WIDTH;
-    let third = second + places::WORD_WIDTH;
-    let fourth = third + places::WORD_WIDTH;
-    let fifth = fourth + places::WORD_WIDTH;
-    let sixth = fifth + places::WORD_WIDTH;
-    let seventh = sixth + places::WORD_WIDTH;
-    let eighth = seventh + places::WORD_WIDTH;
-    Context {
-        words: [
-            integers::word_at(s, first),
-            integers::word_at(s, second),
-            integers::word_at(s, third),
-            integers::word_at(s, fourth),
-            integers::word_at(s, fifth),
-            integers::word_at(s, sixth),
-            integers::word_at(s, seventh),
-            integers::word_at(s, eighth),
-        ],
-    }
+    let mut words = [0u64; 8];
+    words_at(&mut words, s, at + places::CONTEXT_AT);
+    Context { words }
 }
