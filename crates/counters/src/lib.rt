@@ -20,7 +20,7 @@ pub fn count_undos(c: &mut Counters, steps: u32)
     requires { c.old.undos + steps ≤ most_steps }
     ensures { c.new ≡ undos_counted c.old steps }
 {
-    c.undos = c.undos + steps;
+    c.undos += steps;
 }
 
 // Counts so many executions in the lent counters.
@@ -28,5 +28,5 @@ pub fn count_executions(c: &mut Counters, steps: u32)
     requires { c.old.executions + steps ≤ most_steps }
     ensures { c.new ≡ executions_counted c.old steps }
 {
-    c.executions = c.executions + steps;
+    c.executions += steps;
 }
