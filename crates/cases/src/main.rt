@@ -10,10 +10,8 @@ mod answered;
 ghost use Rattle.std.specs.Prelude.{◌≡◌, ◌*◌, length};
 ghost use Rattle.printed.specs.Printout.{most_input};
 
+use libc::STDOUT_FILENO;
 use sheet::MOST_INPUT;
-
-// The file descriptor of standard output.
-const STANDARD_OUTPUT: i32 = 1;
 
 // A run ends after so many cases, where standard input does not end it sooner.
 const MOST_CASES: usize = 10000;
@@ -22,12 +20,10 @@ const MOST_CASES: usize = 10000;
 const CALLS: u8 = b'c';
 
 fn main() {
-    let mut left = MOST_CASES;
-    while left > 0 {
+    for _ in 0..MOST_CASES {
         if !print_case() {
             break;
         }
-        left -= 1;
     }
 }
 
@@ -38,7 +34,7 @@ fn print_case() -> bool {
     if named == 0 {
         return false;
     }
-    io::write_all(STANDARD_OUTPUT, &name[..named]);
+    io::write_all(STDOUT_FILENO, &name[..named]);
     answered::end_line();
     if next_sort() == CALLS {
         print_list();

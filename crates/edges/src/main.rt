@@ -2,18 +2,15 @@
 #![tactic(auto)]
 
 use encoding::answers::ANSWER_SIZE;
-
-// The file descriptors of standard input and standard output.
-const STANDARD_INPUT: i32 = 0;
-
-const STANDARD_OUTPUT: i32 = 1;
+use libc::{STDIN_FILENO, STDOUT_FILENO};
+use request::refusal::ACCEPTED;
 
 // How many calls the list on standard input has.
 const CALLS: usize = 6;
 
 fn main() {
     let mut list = io::buffer();
-    let n = io::read_full(STANDARD_INPUT, &mut list);
+    let n = io::read_full(STDIN_FILENO, &mut list);
     print_idle(answers_to(&list[..n]));
     print(cut_short());
     print(bad_length());
@@ -38,22 +35,22 @@ fn answers_to(list: &[u8]) -> [u8; CALLS * ANSWER_SIZE] {
 // A kind 1 message of 17 bytes present.
 fn cut_short() -> u8 {
     let bytes = [18u8, 0, 1, 0, 0, 1, 10, 0, 0, 0, 2, 4, 0, 0, 6, 0, 0];
-    let reading = wire::read(&bytes, 0);
-    let answer = reading.answer;
-    wire::refusal_of(answer)
+    refusal_at_start(&bytes)
 }
 
 // The same with its length saying 19.
 fn bad_length() -> u8 {
     let bytes = [19u8, 0, 1, 0, 0, 1, 10, 0, 0, 0, 2, 4, 0, 0, 6, 0, 0];
-    let reading = wire::read(&bytes, 0);
-    let answer = reading.answer;
-    wire::refusal_of(answer)
+    refusal_at_start(&bytes)
+}
+
+// The refusal number of what stands at the start of these bytes, 0 where it is none.
+fn refusal_at_start(bytes: &[u8]) -> u8 {
+    wire::read(bytes, 0).err().map_or(ACCEPTED, u8::from)
 }
 
 // Prints a number on a line of its own.
 fn print(n: u8) {
-    io::print_decimal(STANDARD_OUTPUT, n as u64);
-    let end = [b'\n'];
-    io::write_all(STANDARD_OUTPUT, &end);
+    io::print_decimal(STDOUT_FILENO, u64::from(n));
+    io::write_all(STDOUT_FILENO, b"\n");
 }

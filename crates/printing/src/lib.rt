@@ -4,12 +4,8 @@
 ghost use Rattle.std.specs.Prelude.{◌≡◌, length, take};
 ghost use Rattle.printed.specs.Printout.{most_input, most_printed, printout};
 
+use libc::{STDERR_FILENO, STDOUT_FILENO};
 use sheet::MOST_PRINTED;
-
-// The file descriptors of standard output and standard error.
-const STANDARD_OUTPUT: i32 = 1;
-
-const STANDARD_ERROR: i32 = 2;
 
 // Room for the longest printout.
 fn page() -> [u8; MOST_PRINTED]
@@ -20,9 +16,9 @@ fn page() -> [u8; MOST_PRINTED]
 
 // Writes a text to standard output; where it could not be written, a line on standard error says so.
 fn write_text(text: &[u8]) {
-    if !io::write_all(STANDARD_OUTPUT, text) {
+    if !io::write_all(STDOUT_FILENO, text) {
         io::write_all(
-            STANDARD_ERROR,
+            STDERR_FILENO,
             b"printout: the output could not be written\n",
         );
     }

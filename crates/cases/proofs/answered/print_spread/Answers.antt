@@ -1,11 +1,11 @@
 -- `print_spread` meets its contract: a message that is read lies inside the bytes.
 use native.Mathlib.Omega.{arith}
-use mathlib.Core.Path.{ap}
-use Rattle.wire.specs.declared.Reading.{Reading}
-use Rattle.wire.proofs.RoundTrip.{place_inside}
+use mathlib.Core.Path.{sym}
+use lib.Seq.{length-take-le}
+use Rattle.wire.proofs.RoundTrip.{taken_inside}
 use Rattle.cases.proofs.answered.print_spread.Goals as goal
 
-pub print_bytes-requires : goal.print_bytes-requires
-print_bytes-requires c =
-    let taken = ap (λ (r : Reading). r.taken) c.read-reading.ensures in
-    omega (arith, taken, place_inside c.args.answers.now c.args.at c.requires)
+pub slice_bounds-print_bytes-end : goal.slice_bounds-print_bytes-end
+slice_bounds-print_bytes-end c =
+    let read = sym (rw c.in-Ok-Some.field-0-is at c.in-Ok-Some.ensures) in
+    sym (length-take-le _ _ (omega (arith, taken_inside _ _ _ _ read)))
