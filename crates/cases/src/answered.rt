@@ -3,9 +3,9 @@
 ghost use Rattle.std.specs.Prelude.{◌+◌, ◌*◌, ◌≤◌, length};
 ghost use Rattle.encoding.specs.Encoding.{answer_size};
 
+use descriptors::STDOUT_FILENO;
 use encoding::answers::ANSWER_SIZE;
 use encoding::calls::{CALL_SIZE, CALLS_AT};
-use libc::STDOUT_FILENO;
 use wire::Message;
 use wire::layout::LONGEST_MESSAGE;
 

@@ -10,7 +10,7 @@ mod answered;
 ghost use Rattle.std.specs.Prelude.{◌≡◌, ◌*◌, length};
 ghost use Rattle.printed.specs.Printout.{most_input};
 
-use libc::STDOUT_FILENO;
+use descriptors::STDOUT_FILENO;
 use sheet::MOST_INPUT;
 
 // A run ends after so many cases, where standard input does not end it sooner.

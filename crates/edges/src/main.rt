@@ -1,8 +1,8 @@
 // Runs the cases at the edges of document 01 that it does not ask to be proved, and prints a line for each: the refusal number.
 #![tactic(auto)]
 
+use descriptors::{STDIN_FILENO, STDOUT_FILENO};
 use encoding::answers::ANSWER_SIZE;
-use libc::{STDIN_FILENO, STDOUT_FILENO};
 use request::refusal::ACCEPTED;
 
 // How many calls the list on standard input has.

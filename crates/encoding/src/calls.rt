@@ -27,9 +27,9 @@ pub const INVOKE: u8 = 1;
 // A step that a list asks for, or all due steps, by its tag.
 #[derive(Clone, Copy, PartialEq, Eq)]
 pub enum Step {
-    Undo,
-    Execute,
-    AllDue,
+    Undo = 2,
+    Execute = 3,
+    AllDue = 4,
 }
 
 impl Step {

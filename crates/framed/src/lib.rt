@@ -3,7 +3,7 @@
 
 ghost use Rattle.io.specs.Counts.{IsPrefixLen};
 
-use libc::STDIN_FILENO;
+use descriptors::STDIN_FILENO;
 
 // Reads the next part to the front of the lent bytes and returns how many of its bytes were there: fewer than its length where standard
 // input ends inside it, and 0, with none of them read, where the lent bytes have no room for it.

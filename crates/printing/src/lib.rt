@@ -4,7 +4,7 @@
 ghost use Rattle.std.specs.Prelude.{◌≡◌, length, take};
 ghost use Rattle.printed.specs.Printout.{most_input, most_printed, printout};
 
-use libc::{STDERR_FILENO, STDOUT_FILENO};
+use descriptors::{STDERR_FILENO, STDOUT_FILENO};
 use sheet::MOST_PRINTED;
 
 // Room for the longest printout.

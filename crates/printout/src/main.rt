@@ -1,7 +1,7 @@
 // The printout program: at most 65,536 bytes of standard input, and on standard output the printout of them.
 #![tactic(auto)]
 
-use libc::STDIN_FILENO;
+use descriptors::STDIN_FILENO;
 
 fn main() {
     let mut input = io::large_buffer();
