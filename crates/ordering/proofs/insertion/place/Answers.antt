@@ -3,7 +3,7 @@ use Prim.Native.Nat.{ℕ, ◌+◌, ◌-◌, ◌/◌}
 use native.Mathlib.Omega.{arith}
 use mathlib.Core.Path.{sym, ap, ◌∙◌}
 use mathlib.Core.Bool.{not}
-use Rattle.lists.proofs.HalvesLaws.{halving_starts, halving-passed, halving_failed, halving_ends}
+use Rattle.lists.proofs.HalvesLaws.{halving-passed, halving_failed, halving_ends}
 use Rattle.ordering.proofs.SlotLaws.{comparison_asked}
 use Rattle.ordering.proofs.InsertionLaws.{place_behind_last}
 use Rattle.ordering.proofs.insertion.place.Goals as goal
@@ -19,9 +19,6 @@ comes_before-requires c =
 pub returns-then-not-comes_before : goal.returns-then-not-comes_before
 returns-then-not-comes_before c =
     place_behind_last _ _ _ _ _ _ c.requires c.if-from-to.true (ap not (sym c.comes_before.ensures ∙ c.if-not-comes_before.true))
-
-pub loop-low-init : goal.loop-low-init
-loop-low-init c = halving_starts _ _ _ _ _ c.requires.order.part.rising
 
 pub comes_before-requires-in-loop-low : goal.comes_before-requires-in-loop-low
 comes_before-requires-in-loop-low c =
