@@ -1,10 +1,9 @@
-// A request taken off the board, and one put on it: what the two steps and all due steps at once do there.
+// A request taken off the board, and one executed and put on it: what the two steps and all due steps at once do there.
 #![tactic(auto)]
 
-ghost use Rattle.std.specs.Prelude.{◌≡◌, true, ◌<◌};
-ghost use Rattle.ordering.specs.Slots.{most_slots};
+ghost use Rattle.std.specs.Prelude.{◌≡◌, true};
 ghost use Rattle.creek.specs.Replies.{mark_of};
-ghost use Rattle.board.specs.Board.{TopAsks, TakenOff, PutOn};
+ghost use Rattle.board.specs.Board.{TopAsks, TakenOff, NextAsks, ExecutedAt};
 
 use creek::Reply;
 use creek::mark::{NOBODY, STABLE, TENTATIVE, WEAK};
@@ -17,19 +16,26 @@ pub fn take_off(p: &mut Panel, top: usize) -> u16
     ensures { TakenOff p.old top p.new result }
 {
     let slot = p.stack[top];
-    let asked = store::asked_at(&p.askings, slot as usize);
+    let undone = asks::operation(store::asked_at(&p.askings, slot as usize));
     let saved = registers::saved_in(p.saved[top]);
-    registers::rollback(&mut p.registers, asks::operation(asked), saved);
+    registers::rollback(&mut p.registers, undone, saved);
     slot
 }
 
-// Puts the request in that slot, of that strength, on the board at place `at`, with what was saved before it and its response. Its reply.
-pub fn put_on(p: &mut Panel, at: usize, slot: u16, strong: bool, word: u64, response: u32) -> Reply
-    requires { at < most_slots }
-    ensures { PutOn p.old at slot strong word response p.new result }
+// Executes the request at place `at` of the order, and puts it on the board there; its reply. Put where it is called, since the loop of all
+// due steps is where a panel spends its time.
+#[inline(always)]
+pub fn execute_at(p: &mut Panel, at: usize) -> Reply
+    requires { NextAsks p.old.order at }
+    ensures { ExecutedAt p.old at p.new result }
 {
+    let slot = p.order[at];
+    let asked = store::asked_at(&p.askings, slot as usize);
+    let operation = asks::operation(asked);
+    let before = registers::save(&p.registers, operation);
+    p.saved[at] = registers::saved_word(before);
+    let response = executing::execute(&mut p.registers, operation);
     p.stack[at] = slot;
-    p.saved[at] = word;
     p.responses[at] = response;
     let number = numbers::number_of(slot);
     if !members::member_at(&p.awaiting, slot) {
@@ -40,7 +46,7 @@ pub fn put_on(p: &mut Panel, at: usize, slot: u16, strong: bool, word: u64, resp
             refusal: refusal::ACCEPTED,
         };
     }
-    let mark = mark_of(strong, at < p.committed);
+    let mark = mark_of(asked.strong, at < p.committed);
     replica::end_waiting(&mut p.awaiting, number, mark);
     Reply {
         response,

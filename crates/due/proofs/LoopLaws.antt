@@ -1,19 +1,18 @@
 -- The two loops of all due steps on a panel in place: what holds at the start, after each turn and at the end.
-use Prim.Native.Nat.{ℕ, ◌+◌, ◌-◌, ◌*◌, ◌≤◌, ◌<◌}
+use Prim.Native.Nat.{ℕ, ◌+◌, ◌-◌, ◌≤◌, ◌<◌}
 use native.Mathlib.Omega.{arith}
 use mathlib.Core.Path.{◌≡◌, refl, sym, ap, subst, ◌∙◌}
 use mathlib.Core.List.{List}
-use lib.ListN.{get_or, set, replicate}
+use lib.ListN.{set, replicate}
 use Rattle.counters.specs.declared.Counters.{Counters}
 use Rattle.counters.specs.Counted.{most_steps, undos_counted, executions_counted}
-use Rattle.numbers.specs.Numbers.{most_panels, most_events}
 use Rattle.creek.specs.Replies.{reply_in, no_mark, reply}
 use Rattle.creek.specs.declared.Reply.{Reply}
 use Rattle.replica.specs.State.{State}
 use Rattle.replica.specs.declared.Panel.{Panel}
 use Rattle.replica.specs.Memory.{memory, SameSpare}
 use Rattle.replica.specs.internal.Model.{Inv}
-use Rattle.board.specs.Board.{TopAsks, rolled_back, TakenOff}
+use Rattle.board.specs.Board.{TopAsks, rolled_back, TakenOff, NextAsks, ExecutedAt}
 use Rattle.due.specs.declared.DueSteps.{DueSteps}
 use Rattle.due.specs.Due.{no_reply, most_replies, ran, RunDue}
 use Rattle.due.specs.internal.Job.{RolledBack, ExecutedAll}
@@ -21,7 +20,6 @@ use Rattle.replica.proofs.BoundLaws.{undos_fit, executions_fit}
 use Rattle.replica.proofs.ModelLaws.{top_slot_lem, next_slot_lem}
 use Rattle.replica.proofs.States.{executed_state}
 use Rattle.steps.proofs.ExecuteLaws.{NextReply}
-use Rattle.steps.proofs.StepLaws.{Next}
 use Rattle.due.proofs.DueLaws.{Rolling, rolling_start, rolling_on, rolling-end, Executing, executing_start, executing-end, executing_room}
 use Rattle.due.proofs.DueLaws.{executing_quiet, executing-replied, run_through}
 
@@ -147,12 +145,14 @@ module _ {p q : Panel} {replies : List Reply} {n at : ℕ} (h : ExecutingTo p q 
     more_here : at < q.ordered
     more_here = omega (arith, h.ordered)
 
-    pub execute_asks : get_or q.order at 0 < most_panels * most_events
-    execute_asks = next_slot_lem here h.executing.invariant more_here
+    pub execute_asks : NextAsks q.order at
+    execute_asks =
+        let inv = h.executing.invariant in
+        record { place = omega (arith, inv.counts); slot = next_slot_lem here inv more_here }
 
-    module _ {registers : List ℕ} {z : Panel} {r : Reply} (next : Next q at registers z r) where
+    module _ {z : Panel} {r : Reply} (next : ExecutedAt q at z r) where
       about : NextReply here r.number r.mark
-      about = record { number = next.put.number; mark = next.put.mark }
+      about = record { number = next.number; mark = next.mark }
 
       -- one execution more is counted
       abbrev counted : Counters
@@ -163,38 +163,38 @@ module _ {p q : Panel} {replies : List Reply} {n at : ℕ} (h : ExecutingTo p q 
 
       pub execute_room : (r.mark ≡ no_mark → ⊥) → n < most_replies
       execute_room due =
-          executing_room (memory p) here replies n h.executing more_here registers next.word r.response r.number r.mark next.restores
+          executing_room (memory p) here replies n h.executing more_here z.registers next.word r.response r.number r.mark next.restores
           next.done about due
 
       -- what the reply is, field by field
       said : r ≡ reply_in (reply r.number r.response r.mark)
-      said = λ i. record { response = r.response; number = r.number; mark = r.mark; refusal = next.put.refusal i }
+      said = λ i. record { response = r.response; number = r.number; mark = r.mark; refusal = next.refusal i }
 
       -- the state after it, as the panel has it
       moved : (replies : List Reply) (n : ℕ)
-          → Executing (memory p) (executed_state here registers next.word r.response z.awaiting counted) replies n
+          → Executing (memory p) (executed_state here z.registers next.word r.response z.awaiting counted) replies n
           → ExecutingTo p z replies n (at + 1)
       moved replies n e =
           let after : Panel → State = λ (y : Panel). executed_to y p.executed (at + 1) in
           record {
             low = omega (arith, h.low);
             high = omega arith;
-            ordered = ap (λ (y : Panel). y.ordered) next.put.panel ∙ h.ordered;
-            spare = ap (λ (y : Panel). y.spare) next.put.panel ∙ h.spare;
-            executing = subst (λ (y : State). Executing (memory p) y replies n) (sym (ap after next.put.panel)) e;
+            ordered = ap (λ (y : Panel). y.ordered) next.panel ∙ h.ordered;
+            spare = ap (λ (y : Panel). y.spare) next.panel ∙ h.spare;
+            executing = subst (λ (y : State). Executing (memory p) y replies n) (sym (ap after next.panel)) e;
           }
 
       pub execute_quiet : r.mark ≡ no_mark → ExecutingTo p z replies n (at + 1)
       execute_quiet quiet =
           moved replies n
-          (executing_quiet (memory p) here replies n h.executing more_here registers next.word r.response r.number r.mark
-          next.restores next.done about z.awaiting counted next.put.waits counted_one quiet)
+          (executing_quiet (memory p) here replies n h.executing more_here z.registers next.word r.response r.number r.mark
+          next.restores next.done about z.awaiting counted next.waits counted_one quiet)
 
       pub execute-replied : (r.mark ≡ no_mark → ⊥) → ExecutingTo p z (set replies n r) (n + 1) (at + 1)
       execute-replied due =
           moved (set replies n r) (n + 1)
-          (executing-replied (memory p) here replies n h.executing more_here registers next.word r.response r.number r.mark
-          next.restores next.done about z.awaiting counted next.put.waits counted_one due r said)
+          (executing-replied (memory p) here replies n h.executing more_here z.registers next.word r.response r.number r.mark
+          next.restores next.done about z.awaiting counted next.waits counted_one due r said)
 
   module _ (all : p.ordered ≤ at) where
     abbrev end_here : State

@@ -11,7 +11,7 @@ use creek::Reply;
 use creek::mark::NOBODY;
 use numbers::Number;
 use replica::Panel;
-use request::{asks, refusal};
+use request::refusal;
 
 // What all due steps were: how many undos and executions, and the replies that fell due, of which there are `count`.
 #[repr(C)]
@@ -61,13 +61,7 @@ fn execute_all(p: &mut Panel, undos: u32) -> DueSteps
     let mut replies = [no_reply(); 64];
     let mut count: usize = 0;
     for at in first..ordered {
-        let slot = p.order[at];
-        let asked = store::asked_at(&p.askings, slot as usize);
-        let operation = asks::operation(asked);
-        let before = registers::save(&p.registers, operation);
-        let word = registers::saved_word(before);
-        let response = executing::execute(&mut p.registers, operation);
-        let next = board::put_on(p, at, slot, asked.strong, word, response);
+        let next = board::execute_at(p, at);
         if next.mark == NOBODY {
             continue;
         }

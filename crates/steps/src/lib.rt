@@ -1,6 +1,6 @@
 // The two steps: undo the first of the rollback list, execute the first of the to-do list. Each counts itself where it was done.
 //
-// Taking a request off the board and putting one on are in the crate `board`.
+// Taking a request off the board, and executing one and putting it on, are in the crate `board`.
 #![tactic(auto)]
 
 ghost use Rattle.creek.specs.Book.{undo as undo_call, execute as execute_call};
@@ -11,7 +11,6 @@ ghost use Rattle.replica.specs.internal.Model.{Inv};
 use creek::Reply;
 use creek::mark::NOBODY;
 use replica::Panel;
-use request::asks;
 use request::refusal::{self, Refusal};
 
 // Undo one step: the first of the rollback list leaves the board, and its registers take their former values.
@@ -46,13 +45,7 @@ pub fn execute(p: &mut Panel) -> Reply
     if at == p.ordered {
         return replica::told(Err(Refusal::NothingToDo));
     }
-    let slot = p.order[at];
-    let asked = store::asked_at(&p.askings, slot as usize);
-    let operation = asks::operation(asked);
-    let before = registers::save(&p.registers, operation);
-    let word = registers::saved_word(before);
-    let response = executing::execute(&mut p.registers, operation);
-    let done = board::put_on(p, at, slot, asked.strong, word, response);
+    let done = board::execute_at(p, at);
     let more = at + 1;
     p.executed = more;
     p.stacked = more;

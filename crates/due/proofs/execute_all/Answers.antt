@@ -1,30 +1,22 @@
 -- `due::execute_all` meets its contract.
 use native.Mathlib.Omega.{arith}
-use Rattle.steps.proofs.StepLaws.{Next, next_by}
 use Rattle.due.proofs.LoopLaws.{execute_start, execute_asks, execute_quiet, execute_room, execute-replied, execute_counts, execute-end}
 use Rattle.due.proofs.execute_all.Goals as goal
-use Rattle.due.proofs.execute_all.Goals.{After-put_on-next}
-
-next : (c : After-put_on-next)
-    → Next c.loop-at.p c.loop-at.at c.execute-response.new.registers c.put_on-next.new.p c.put_on-next.result
-next c =
-    next_by c.loop-at.p c.loop-at.at c.asked_at-asked.ensures c.operation-operation.ensures c.save-before.ensures
-    c.saved_word-word.ensures c.execute-response.ensures c.put_on-next.ensures
 
 pub loop-at-init : goal.loop-at-init
 loop-at-init c = execute_start c.args.p.now c.requires.inv c.requires.nothing_to_undo _ c.no_reply-replies.ensures
 
-pub asked_at-asked-requires : goal.asked_at-asked-requires
-asked_at-asked-requires c = execute_asks c.loop-at.invariant c.loop-at-test.true
+pub execute_at-next-requires : goal.execute_at-next-requires
+execute_at-next-requires c = execute_asks c.loop-at.invariant c.loop-at-test.true
 
 pub loop-at-preserved-then-next-eq-NOBODY : goal.loop-at-preserved-then-next-eq-NOBODY
 loop-at-preserved-then-next-eq-NOBODY c =
     execute_quiet c.loop-at.invariant c.loop-at-test.true
-    (next (goal.at.loop-at-preserved-then-next-eq-NOBODY c).After-put_on-next) c.if-next-eq-NOBODY.true
+    c.execute_at-next.ensures c.if-next-eq-NOBODY.true
 
 pub bounds-replies-count : goal.bounds-replies-count
 bounds-replies-count c =
-    execute_room c.loop-at.invariant c.loop-at-test.true (next (goal.at.bounds-replies-count c).After-put_on-next)
+    execute_room c.loop-at.invariant c.loop-at-test.true c.execute_at-next.ensures
     c.if-next-eq-NOBODY.false
 
 pub offset_bounds-replies-count : goal.offset_bounds-replies-count
@@ -32,12 +24,11 @@ offset_bounds-replies-count c = omega (arith, bounds-replies-count c)
 
 pub overflow_add-count : goal.overflow_add-count
 overflow_add-count c =
-    let at = goal.at.overflow_add-count c in
-    omega (arith, execute_room c.loop-at.invariant c.loop-at-test.true (next at.After-put_on-next) c.if-next-eq-NOBODY.false)
+    omega (arith, execute_room c.loop-at.invariant c.loop-at-test.true c.execute_at-next.ensures c.if-next-eq-NOBODY.false)
 
 pub loop-at-preserved : goal.loop-at-preserved
 loop-at-preserved c =
-    execute-replied c.loop-at.invariant c.loop-at-test.true (next (goal.at.loop-at-preserved c).After-put_on-next)
+    execute-replied c.loop-at.invariant c.loop-at-test.true c.execute_at-next.ensures
     c.if-next-eq-NOBODY.false
 
 pub count_executions-requires : goal.count_executions-requires
