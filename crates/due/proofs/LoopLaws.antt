@@ -3,7 +3,7 @@ use Prim.Native.Nat.{ℕ, ◌+◌, ◌-◌, ◌≤◌, ◌<◌}
 use native.Mathlib.Omega.{arith}
 use mathlib.Core.Path.{◌≡◌, refl, sym, ap, subst, ◌∙◌}
 use mathlib.Core.List.{List}
-use lib.ListN.{set, replicate}
+use lib.ListN.{set}
 use Rattle.counters.specs.declared.Counters.{Counters}
 use Rattle.counters.specs.Counted.{most_steps, undos_counted, executions_counted}
 use Rattle.creek.specs.Replies.{reply_in, no_mark, reply}
@@ -12,32 +12,23 @@ use Rattle.replica.specs.State.{State}
 use Rattle.replica.specs.declared.Panel.{Panel}
 use Rattle.replica.specs.Memory.{memory, SameSpare}
 use Rattle.replica.specs.internal.Model.{Inv}
-use Rattle.board.specs.Board.{TopAsks, rolled_back, TakenOff, NextAsks, ExecutedAt}
+use Rattle.board.specs.Board.{rolled_back, TakenOff, ExecutedAt}
 use Rattle.due.specs.declared.DueSteps.{DueSteps}
-use Rattle.due.specs.Due.{no_reply, most_replies, ran, RunDue}
+use Rattle.due.specs.Due.{most_replies, ran, RunDue}
 use Rattle.due.specs.internal.Job.{RolledBack, ExecutedAll}
 use Rattle.replica.proofs.BoundLaws.{undos_fit, executions_fit}
-use Rattle.replica.proofs.ModelLaws.{top_slot_lem, next_slot_lem}
 use Rattle.replica.proofs.States.{executed_state}
 use Rattle.steps.proofs.ExecuteLaws.{NextReply}
-use Rattle.due.proofs.DueLaws.{Rolling, rolling_start, rolling_on, rolling-end, Executing, executing_start, executing-end, executing_room}
+use Rattle.due.proofs.DueLaws.{Rolling, rolling_on, rolling-end, Executing, executing-end, executing_room}
 use Rattle.due.proofs.DueLaws.{executing_quiet, executing-replied, run_through}
 
--- ---- counting: none, and one step more
+-- ---- counting one step more
 
 module _ (c : Counters) (from at : ℕ) where
-  none-undone : from ≡ at → undos_counted c (from - at) ≡ c
-  none-undone e = let same : c.undos + (from - at) ≡ c.undos = omega arith in λ i. record { undos = same i; executions = c.executions }
-
   undone_more : at < from → undos_counted c (from - at) ≡ undos_counted (undos_counted c (from - (at + 1))) 1
   undone_more h =
       let more : c.undos + (from - at) ≡ c.undos + (from - (at + 1)) + 1 = omega arith in
       λ i. record { undos = more i; executions = c.executions }
-
-  none_executed : from ≡ at → executions_counted c (at - from) ≡ c
-  none_executed e =
-      let same : c.executions + (at - from) ≡ c.executions = omega arith in
-      λ i. record { undos = c.undos; executions = same i }
 
   executed_more : from ≤ at → executions_counted c (at + 1 - from) ≡ executions_counted (executions_counted c (at - from)) 1
   executed_more h =
@@ -57,26 +48,7 @@ pub record RollingTo (p q : Panel) (left : ℕ) : Type 0 where
   pub spare : SameSpare p q
   pub rolling : Rolling (memory p) (rolled_to q p.stacked left)
 
-module _ (p : Panel) (inv : Inv (memory p)) where
-  pub roll_start : RollingTo p p p.stacked
-  roll_start = record {
-    low = omega (arith, inv.counts);
-    high = omega arith;
-    spare = refl;
-    rolling =
-        subst (λ (k : Counters). Rolling (memory p) (record (memory p) { counters = k }))
-        (sym (none-undone p.counters p.stacked p.stacked refl)) (rolling_start (memory p) inv);
-  }
-
 module _ {p q : Panel} {left : ℕ} (h : RollingTo p q left) where
-  pub roll_asks : p.executed < left → TopAsks q.stack (left - 1)
-  roll_asks more =
-      let inv = h.rolling.invariant in
-      record {
-        place = omega (arith, inv.counts);
-        slot = top_slot_lem (rolled_to q p.stacked left) inv (omega (arith, h.rolling.executed));
-      }
-
   pub roll_on : p.executed < left → {z : Panel} {s : ℕ} → TakenOff q (left - 1) z s → RollingTo p z (left - 1)
   roll_on more {z} off =
       let again : left - 1 + 1 ≡ left = omega arith in
@@ -103,10 +75,6 @@ module _ {p q : Panel} {left : ℕ} (h : RollingTo p q left) where
     pub roll_counts : q.counters.undos + (p.stacked - p.executed) ≤ most_steps
     roll_counts = undos_fit (rolled_to q p.stacked p.executed) done.invariant
 
-    pub roll-end : (counters : Counters) → counters ≡ undos_counted q.counters (p.stacked - p.executed)
-        → RolledBack (memory p) (memory (record q { stacked = p.executed; counters = counters })) × SameSpare p q
-    roll-end counters counted = (rw counted done, h.spare)
-
 -- ---- the loop of executions
 
 -- q with so many executed, those behind the first counted
@@ -121,22 +89,6 @@ pub record ExecutingTo (p q : Panel) (replies : List Reply) (n at : ℕ) : Type 
   pub spare : SameSpare p q
   pub executing : Executing (memory p) (executed_to q p.executed at) replies n
 
-module _ (p : Panel) (inv : Inv (memory p)) (idle : p.executed ≡ p.stacked) where
-  pub execute_start : (none : Reply) → none ≡ no_reply → ExecutingTo p p (replicate most_replies none) 0 p.executed
-  execute_start none is =
-      let replies = replicate most_replies none in
-      record {
-        low = omega arith;
-        high = omega (arith, inv.counts);
-        ordered = refl;
-        spare = refl;
-        executing =
-            subst (λ (n : ℕ). Executing (memory p)
-            (record (memory p) { stacked = n; counters = executions_counted p.counters (p.executed - p.executed) }) replies 0) (sym idle)
-            (subst (λ (k : Counters). Executing (memory p) (record (memory p) { counters = k }) replies 0)
-            (sym (none_executed p.counters p.executed p.executed refl)) (executing_start (memory p) none inv idle is));
-      }
-
 module _ {p q : Panel} {replies : List Reply} {n at : ℕ} (h : ExecutingTo p q replies n at) where
   abbrev here : State
   here = executed_to q p.executed at
@@ -144,11 +96,6 @@ module _ {p q : Panel} {replies : List Reply} {n at : ℕ} (h : ExecutingTo p q 
   module _ (more : at < p.ordered) where
     more_here : at < q.ordered
     more_here = omega (arith, h.ordered)
-
-    pub execute_asks : NextAsks q.order at
-    execute_asks =
-        let inv = h.executing.invariant in
-        record { place = omega (arith, inv.counts); slot = next_slot_lem here inv more_here }
 
     module _ {z : Panel} {r : Reply} (next : ExecutedAt q at z r) where
       about : NextReply here r.number r.mark

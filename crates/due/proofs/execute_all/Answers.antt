@@ -1,13 +1,7 @@
 -- `due::execute_all` meets its contract.
 use native.Mathlib.Omega.{arith}
-use Rattle.due.proofs.LoopLaws.{execute_start, execute_asks, execute_quiet, execute_room, execute-replied, execute_counts, execute-end}
+use Rattle.due.proofs.LoopLaws.{execute_quiet, execute_room, execute-replied, execute_counts, execute-end}
 use Rattle.due.proofs.execute_all.Goals as goal
-
-pub loop-at-init : goal.loop-at-init
-loop-at-init c = execute_start c.args.p.now c.requires.inv c.requires.nothing_to_undo _ c.no_reply-replies.ensures
-
-pub execute_at-next-requires : goal.execute_at-next-requires
-execute_at-next-requires c = execute_asks c.loop-at.invariant c.loop-at-test.true
 
 pub loop-at-preserved-then-next-eq-NOBODY : goal.loop-at-preserved-then-next-eq-NOBODY
 loop-at-preserved-then-next-eq-NOBODY c =
