@@ -2,11 +2,10 @@
 #![tactic(auto)]
 
 ghost use Rattle.std.specs.Prelude.{◌≡◌, true};
-ghost use Rattle.creek.specs.Replies.{mark_of};
+ghost use Rattle.creek.specs.Replies.{mark_number, mark_of};
 ghost use Rattle.board.specs.Board.{TopAsks, TakenOff, NextAsks, ExecutedAt};
 
-use creek::Reply;
-use creek::mark::{NOBODY, STABLE, TENTATIVE, WEAK};
+use creek::{Mark, Reply};
 use replica::Panel;
 use request::{asks, refusal};
 
@@ -42,7 +41,7 @@ pub fn execute_at(p: &mut Panel, at: usize) -> Reply
         return Reply {
             response,
             number,
-            mark: NOBODY,
+            mark: Mark::Nobody as u8,
             refusal: refusal::ACCEPTED,
         };
     }
@@ -51,20 +50,20 @@ pub fn execute_at(p: &mut Panel, at: usize) -> Reply
     Reply {
         response,
         number,
-        mark,
+        mark: u8::from(mark),
         refusal: refusal::ACCEPTED,
     }
 }
 
 // The mark of an execution's reply that somebody awaits.
-fn mark_of(strong: bool, committed: bool) -> u8
-    ensures { result ≡ mark_of true strong committed }
+fn mark_of(strong: bool, committed: bool) -> Mark
+    ensures { mark_number result ≡ mark_of true strong committed }
 {
     if strong {
         if committed {
-            return STABLE;
+            return Mark::Stable;
         }
-        return TENTATIVE;
+        return Mark::Tentative;
     }
-    WEAK
+    Mark::Weak
 }

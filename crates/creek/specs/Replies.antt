@@ -13,6 +13,8 @@ use Rattle.effects.specs.Effect.{exec, response}
 use Rattle.effects.specs.Replay.{zero_board}
 use Rattle.creek.specs.declared.Answer.{Answer}
 use Rattle.creek.specs.declared.Reply.{Reply}
+use Rattle.creek.specs.declared.mark.Mark.{Mark}
+use Rattle.creek.specs.declared.mark.Mark.TheVariants.{Nobody, Weak, Tentative, Stable}
 use Rattle.lists.specs.Lists.{one, some_passes}
 use Rattle.creek.specs.Plan.{Plan, has_number, held, made, is_committed}
 use Rattle.creek.specs.Execution.{registers}
@@ -32,6 +34,13 @@ tentative_mark = 2
 
 abbrev pub stable_mark : ℕ
 stable_mark = 3
+
+-- the number of a mark
+abbrev pub mark_number : Mark → ℕ
+mark_number Nobody = no_mark
+mark_number Weak = weak_mark
+mark_number Tentative = tentative_mark
+mark_number Stable = stable_mark
 
 -- a request to be spread, and zeros elsewhere
 abbrev pub spread : Request → Answer

@@ -10,6 +10,7 @@ pub mod mark;
 ghost use Rattle.std.specs.Prelude.{◌≡◌};
 ghost use Rattle.creek.specs.Replies.{reply_answer};
 
+pub use mark::Mark;
 use numbers::{Clock, Number};
 use request::{Asked, Request};
 

@@ -7,8 +7,7 @@ ghost use Rattle.replica.specs.internal.Model.{Inv};
 ghost use Rattle.due.specs.Due.{no_reply, ran, RunDue};
 ghost use Rattle.due.specs.internal.Job.{RolledBack, ExecutedAll};
 
-use creek::Reply;
-use creek::mark::NOBODY;
+use creek::{Mark, Reply};
 use numbers::Number;
 use replica::Panel;
 use request::refusal;
@@ -62,7 +61,7 @@ fn execute_all(p: &mut Panel, undos: u32) -> DueSteps
     let mut count: usize = 0;
     for at in first..ordered {
         let next = board::execute_at(p, at);
-        if next.mark == NOBODY {
+        if next.mark == Mark::Nobody as u8 {
             continue;
         }
         replies[count] = next;
@@ -90,7 +89,7 @@ fn no_reply() -> Reply
     Reply {
         response: 0,
         number: Number { panel, event },
-        mark: NOBODY,
+        mark: Mark::Nobody as u8,
         refusal: refusal::ACCEPTED,
     }
 }

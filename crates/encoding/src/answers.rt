@@ -7,7 +7,7 @@ ghost use Rattle.encoding.specs.Encoding.{call_count, answer_size, answer_bytes,
 ghost use Rattle.encoding.specs.internal.Running.{receipt_answer};
 
 use super::calls;
-use creek::{Answer, Reply, mark};
+use creek::{Answer, Mark, Reply};
 use intake::Receipt;
 use request::Request;
 use request::refusal::{self, Refusal};
@@ -52,7 +52,7 @@ pub fn put_steps(out: &mut [u8], at: usize, steps: u32) -> usize
     let counted = Reply {
         response: steps,
         number: numbers::none(),
-        mark: mark::NOBODY,
+        mark: Mark::Nobody as u8,
         refusal: refusal::ACCEPTED,
     };
     put_reply(out, at, counted)

@@ -12,8 +12,7 @@ ghost use Rattle.replica.specs.Memory.{memory, Done};
 ghost use Rattle.replica.specs.internal.Model.{Inv};
 ghost use Rattle.invoking.specs.Invoking.{InvokeRefused, context_without, request_for, made_answer};
 
-use creek::mark::NOBODY;
-use creek::{Answer, Invocation};
+use creek::{Answer, Invocation, Mark};
 use numbers::{Clock, EventNo, Number};
 use replica::Panel;
 use request::refusal::{self, Refusal};
@@ -62,7 +61,7 @@ pub fn made_answer(outcome: Result<Request, Refusal>) -> Answer
             response: 0,
             number: numbers::none(),
             refusal: refusal::ACCEPTED,
-            mark: NOBODY,
+            mark: Mark::Nobody as u8,
         },
         Err(w) => Answer::from(replica::told(Err(w))),
     }

@@ -3,10 +3,9 @@ ghost use Rattle.std.specs.Prelude.{◌≡◌};
 ghost use Rattle.sets.specs.Sets.{set_of};
 ghost use Rattle.numbers.specs.Numbers.{no_number};
 ghost use Rattle.request.specs.Refusal.{outcome_number};
-ghost use Rattle.creek.specs.Replies.{refused_with, reply_in, awaiting_after};
+ghost use Rattle.creek.specs.Replies.{refused_with, reply_in, mark_number, awaiting_after};
 
-use creek::Reply;
-use creek::mark::{NOBODY, STABLE, WEAK};
+use creek::{Mark, Reply};
 use numbers::Number;
 use request::refusal::{self, Refusal};
 
@@ -17,16 +16,17 @@ pub fn told(outcome: Result<(), Refusal>) -> Reply
     Reply {
         response: 0,
         number: numbers::none(),
-        mark: NOBODY,
+        mark: Mark::Nobody as u8,
         refusal: refusal::outcome_number(outcome),
     }
 }
 
 // Takes n from those who await a reply after one with that mark: weak and stable end the waiting.
-pub fn end_waiting(awaiting: &mut [u64; 8], n: Number, mark: u8)
-    ensures { set_of awaiting.new ≡ awaiting_after (set_of awaiting.old) n mark }
+pub fn end_waiting(awaiting: &mut [u64; 8], n: Number, mark: Mark)
+    ensures { set_of awaiting.new ≡ awaiting_after (set_of awaiting.old) n (mark_number mark) }
 {
-    if (mark == WEAK) | (mark == STABLE) {
-        members::leave(awaiting, n);
+    match mark {
+        Mark::Weak | Mark::Stable => members::leave(awaiting, n),
+        Mark::Nobody | Mark::Tentative => {}
     }
 }

@@ -2,19 +2,18 @@
 // come before are in the crate `committing`.
 #![tactic(auto)]
 
-ghost use Rattle.std.specs.Prelude.{◌≡◌};
+ghost use Rattle.std.specs.Prelude.{cond, ◌≡◌};
 ghost use Rattle.numbers.specs.internal.Slots.{slot_of};
 ghost use Rattle.sets.specs.Sets.{set_of};
 ghost use Rattle.slots.specs.Marks.{Marked};
 ghost use Rattle.request.specs.Refusal.{accepted, waits};
 ghost use Rattle.creek.specs.Book.{commit};
-ghost use Rattle.creek.specs.Replies.{reply_answer, refused_with};
+ghost use Rattle.creek.specs.Replies.{no_mark, stable_mark, mark_number, reply_answer, refused_with};
 ghost use Rattle.replica.specs.Memory.{memory, Done};
 ghost use Rattle.replica.specs.internal.Model.{Inv};
 ghost use Rattle.settling.specs.Settling.{early_refusal, missing_number, agreed, settled_answer, MarkAsks};
 
-use creek::Reply;
-use creek::mark::{NOBODY, STABLE};
+use creek::{Mark, Reply};
 use numbers::Number;
 use replica::Panel;
 use request::refusal::{self, Refusal};
@@ -55,7 +54,7 @@ pub fn settle(p: &mut Panel, n: Number) -> Reply
     let due = members::member(&p.awaiting, n) & (count <= stays);
     members::join(&mut p.known, n);
     let reply = settled_reply(due, response);
-    replica::end_waiting(&mut p.awaiting, n, reply.mark);
+    replica::end_waiting(&mut p.awaiting, n, settled_mark(due));
     p.committed = count;
     p.executed = stays;
     p.commits += 1;
@@ -79,7 +78,7 @@ fn waiting(number: Number) -> Reply
     Reply {
         response: 0,
         number,
-        mark: NOBODY,
+        mark: Mark::Nobody as u8,
         refusal: u8::from(Refusal::Waits),
     }
 }
@@ -104,6 +103,16 @@ fn agreed(executed: usize, last: usize, start: usize) -> usize
     start
 }
 
+// The mark of an accepted settlement's reply.
+fn settled_mark(due: bool) -> Mark
+    ensures { mark_number result ≡ cond due stable_mark no_mark }
+{
+    if due {
+        return Mark::Stable;
+    }
+    Mark::Nobody
+}
+
 // The reply of an accepted settlement: where a stable reply is due, that with the response.
 fn settled_reply(due: bool, response: u32) -> Reply
     ensures { reply_answer result ≡ settled_answer due response }
@@ -112,7 +121,7 @@ fn settled_reply(due: bool, response: u32) -> Reply
         return Reply {
             response,
             number: numbers::none(),
-            mark: STABLE,
+            mark: Mark::Stable as u8,
             refusal: refusal::ACCEPTED,
         };
     }

@@ -8,8 +8,7 @@ ghost use Rattle.creek.specs.Replies.{reply_answer};
 ghost use Rattle.replica.specs.Memory.{memory, Done};
 ghost use Rattle.replica.specs.internal.Model.{Inv};
 
-use creek::Reply;
-use creek::mark::NOBODY;
+use creek::{Mark, Reply};
 use replica::Panel;
 use request::refusal::{self, Refusal};
 
@@ -28,7 +27,7 @@ pub fn undo(p: &mut Panel) -> Reply
     Reply {
         response: 0,
         number: numbers::number_of(slot),
-        mark: NOBODY,
+        mark: Mark::Nobody as u8,
         refusal: refusal::ACCEPTED,
     }
 }

@@ -3,27 +3,27 @@ use native.Mathlib.Omega.{arith}
 use Rattle.due.proofs.LoopLaws.{execute_quiet, execute_room, execute-replied, execute_counts, execute-end}
 use Rattle.due.proofs.execute_all.Goals as goal
 
-pub loop-at-preserved-then-next-eq-NOBODY : goal.loop-at-preserved-then-next-eq-NOBODY
-loop-at-preserved-then-next-eq-NOBODY c =
+pub loop-at-preserved-then-next : goal.loop-at-preserved-then-next
+loop-at-preserved-then-next c =
     execute_quiet c.loop-at.invariant c.loop-at-test.true
-    c.execute_at-next.ensures c.if-next-eq-NOBODY.true
+    c.execute_at-next.ensures c.if-next.true
 
 pub bounds-replies-count : goal.bounds-replies-count
 bounds-replies-count c =
     execute_room c.loop-at.invariant c.loop-at-test.true c.execute_at-next.ensures
-    c.if-next-eq-NOBODY.false
+    c.if-next.false
 
 pub offset_bounds-replies-count : goal.offset_bounds-replies-count
 offset_bounds-replies-count c = omega (arith, bounds-replies-count c)
 
 pub overflow_add-count : goal.overflow_add-count
 overflow_add-count c =
-    omega (arith, execute_room c.loop-at.invariant c.loop-at-test.true c.execute_at-next.ensures c.if-next-eq-NOBODY.false)
+    omega (arith, execute_room c.loop-at.invariant c.loop-at-test.true c.execute_at-next.ensures c.if-next.false)
 
 pub loop-at-preserved : goal.loop-at-preserved
 loop-at-preserved c =
     execute-replied c.loop-at.invariant c.loop-at-test.true c.execute_at-next.ensures
-    c.if-next-eq-NOBODY.false
+    c.if-next.false
 
 pub count_executions-requires : goal.count_executions-requires
 count_executions-requires c = execute_counts c.loop-at.invariant c.loop-at-test.false
