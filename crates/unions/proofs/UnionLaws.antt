@@ -22,14 +22,6 @@ pub record Uniting (words others ys : List ℕ) (i : ℕ) : Type 0 where
   pub below : (p : ℕ) → p < i → get_or ys p 0 ≡ bit_or (get_or words p 0) (get_or others p 0)
   pub above : (p : ℕ) → i ≤ p → get_or ys p 0 ≡ get_or words p 0
 
-pub uniting_starts : (words others : List ℕ) → length words ≡ most_panels → Uniting words others words 0
-uniting_starts words others long = record {
-  high = omega arith;
-  long = long;
-  below = λ p h. absurd (omega arith);
-  above = λ p h. refl;
-}
-
 module _ (words others ys : List ℕ) (i : ℕ) (h : Uniting words others ys i) where
   pub uniting_on : i < most_panels → Uniting words others (set ys i (bit_or (get_or ys i 0) (get_or others i 0))) (i + 1)
   uniting_on more = record {
