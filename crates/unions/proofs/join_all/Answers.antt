@@ -1,4 +1,4 @@
--- `members::join_all` meets its contract; the laws of a turn are in `UnionLaws`.
+-- `unions::join_all` meets its contract; the laws of a turn are in `UnionLaws`.
 use native.Mathlib.Omega.{arith}
 use Rattle.unions.proofs.UnionLaws.{uniting_on, uniting_ends}
 use Rattle.unions.proofs.join_all.Goals as goal

@@ -1,4 +1,4 @@
--- `members::join_all` meets its contract; the laws of a turn are in `UnionLaws`.
+-- `unions::join_all` meets its contract; the laws of a turn are in `UnionLaws`.
 use Rattle.unions.proofs.UnionLaws.{Uniting}
 use Rattle.unions.proofs.join_all.Given as goal
 

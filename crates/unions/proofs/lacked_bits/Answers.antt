@@ -1,4 +1,4 @@
--- `members::lacked_bits` meets its contract.
+-- `unions::lacked_bits` meets its contract.
 use Prim.Native.Nat.{◌-◌, ◌≤◌}
 use native.Mathlib.Omega.{arith}
 use borrow.Author.Rules.{rules}
