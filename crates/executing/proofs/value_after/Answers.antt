@@ -15,7 +15,9 @@ returns-else-code-eq-SET c =
     elim c.if-code-eq-ADD.branch [
       | then-code-eq-ADD w ↦ w.added-is ∙ simp w.if-code-eq-ADD.true
       | else-code-eq-ADD w ↦ elim c.if-claims.branch [
-        | then-claims v ↦ simp (ne_eqb _ _ c.if-code-eq-SET.false, ne_eqb _ _ w.if-code-eq-ADD.false, v.if-claims.true) (w.added-is ∙ v.claimed-is)
-        | else-claims v ↦ simp (ne_eqb _ _ c.if-code-eq-SET.false, ne_eqb _ _ w.if-code-eq-ADD.false, v.if-claims.false) (w.added-is ∙ v.claimed-is)
+        | then-claims v ↦
+            simp (ne_eqb _ _ c.if-code-eq-SET.false, ne_eqb _ _ w.if-code-eq-ADD.false, v.if-claims.true) (w.added-is ∙ v.claimed-is)
+        | else-claims v ↦
+            simp (ne_eqb _ _ c.if-code-eq-SET.false, ne_eqb _ _ w.if-code-eq-ADD.false, v.if-claims.false) (w.added-is ∙ v.claimed-is)
       ]
     ]

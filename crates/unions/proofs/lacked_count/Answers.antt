@@ -17,7 +17,8 @@ sum-requires-clause-fits c =
     let long : length words ≡ 8 = search rules in
     let others_long : length others ≡ 8 = search rules in
     fits_by_from_yields_list lacked_of (zip words others) c.map.result _
-    (YieldsList-from_map _ lacked_of (YieldsList-at c.map.ensures.source (YieldsList-from_zip (YieldsList-from_slice words cc) (YieldsList-from_slice others cc)))
+    (YieldsList-from_map _ lacked_of
+    (YieldsList-at c.map.ensures.source (YieldsList-from_zip (YieldsList-from_slice words cc) (YieldsList-from_slice others cc)))
     c.map.ensures.closure (λ x r q k. search (rules, tests)))
     (omega (arith, lacked_in_all words others long others_long, lacked-few words others))
 
@@ -28,6 +29,7 @@ returns c =
     let long : length words ≡ 8 = search rules in
     let others_long : length others ≡ 8 = search rules in
     sum_by_from_yields_List lacked_of (zip words others) c.map.result _ c.sum.ensures.ran
-    (YieldsList-from_map _ lacked_of (YieldsList-at c.map.ensures.source (YieldsList-from_zip (YieldsList-from_slice words cc) (YieldsList-from_slice others cc)))
+    (YieldsList-from_map _ lacked_of
+    (YieldsList-at c.map.ensures.source (YieldsList-from_zip (YieldsList-from_slice words cc) (YieldsList-from_slice others cc)))
     c.map.ensures.closure (λ x r q k. search (rules, tests)))
     ∙ lacked_in_all words others long others_long

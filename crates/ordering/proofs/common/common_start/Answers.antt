@@ -30,7 +30,8 @@ loop-place-preserved c =
     omega (
       arith,
       v.invariant,
-      common_on eqb a.xs.now a.ys.now 0 v.place a.n a.m (omega arith) (omega arith) (omega arith) (omega arith) (eq-eqb _ _ c.if-xs-place.false),
+      common_on eqb a.xs.now a.ys.now 0 v.place a.n a.m (omega arith) (omega arith) (omega arith) (omega arith)
+          (eq-eqb _ _ c.if-xs-place.false),
     )
 
 pub returns-then-xs-place : goal.returns-then-xs-place
@@ -40,7 +41,8 @@ returns-then-xs-place c =
     omega (
       arith,
       v.invariant,
-      common_stops eqb a.xs.now a.ys.now 0 v.place a.n a.m (omega arith) (omega arith) (omega arith) (omega arith) (ne_eqb _ _ c.if-xs-place.true),
+      common_stops eqb a.xs.now a.ys.now 0 v.place a.n a.m (omega arith) (omega arith) (omega arith) (omega arith)
+          (ne_eqb _ _ c.if-xs-place.true),
     )
 
 pub returns : goal.returns
