@@ -1,15 +1,17 @@
-// The writer: a message at the front of a lent part.
+// The writer: a message at the front of a lent part. Each kind of message has its own function, by which the compiler takes the parts of
+// each straight to where they are written.
 #![tactic(auto)]
 
 ghost use Rattle.std.specs.Prelude.{◌≡◌, ◌≤◌, ◌∷◌, [], length, drop};
 ghost use Rattle.std.proofs.lemmas.List.Edits.{sets as put};
 ghost use Rattle.wire.specs.Layout.{kind_number};
 ghost use Rattle.fields.specs.Widths.{head_widths, head_fields, head_size, encode};
-ghost use Rattle.wire.specs.declared.Message.TheVariants.{Request as request_message};
-ghost use Rattle.wire.specs.Message.{contents, widths_of, size_of, bytes_of, weak_with_context, Fits};
+ghost use Rattle.wire.specs.declared.Message.TheVariants.{Request as request_message, Settlement as settlement};
+ghost use Rattle.wire.specs.Message.{contents, widths_of, size_of, weak_with_context, Fits};
 ghost use Rattle.wire.specs.Writer.{Wrote};
 
 use fields::{integers, places, writing};
+use numbers::Number;
 use request::Request;
 use request::refusal::Refusal;
 use wire::{Kind, Message};
@@ -18,46 +20,48 @@ use wire::{Kind, Message};
 pub fn write(out: &mut [u8], m: Message) -> Result<usize, Refusal>
     ensures { Wrote m out.old out.new result }
 {
-    if weak_with_context(m) {
+    match m {
+        Message::Request(r) => write_request(out, r),
+        Message::Settlement(n) => write_settlement(out, n),
+    }
+}
+
+// Writes the message that spreads r.
+fn write_request(out: &mut [u8], r: Request) -> Result<usize, Refusal>
+    ensures { Wrote (request_message r) out.old out.new result }
+{
+    if weak_with_context(r) {
         return Err(Refusal::BadContext);
     }
-    let size = m.size();
+    let kind = Message::Request(r).kind();
+    let size = kind.least_size();
     if out.len() < size {
         return Err(Refusal::NoRoom);
     }
-    put_message(out, m);
+    put_head(out, kind, size);
+    put_request(out, r);
     Ok(size)
 }
 
-// Whether m is a weak request with a context; its parts show that each fits its field.
-fn weak_with_context(m: Message) -> bool
-    ensures tells { result ≡ weak_with_context m }
-    ensures fits { Fits m }
+// Writes the message that settles n.
+fn write_settlement(out: &mut [u8], n: Number) -> Result<usize, Refusal>
+    ensures { Wrote (settlement n) out.old out.new result }
 {
-    match m {
-        Message::Request(r) => weak_request_with_context(r),
-        Message::Settlement(_) => false,
+    let least = Kind::Settlement.least_size();
+    if out.len() < least {
+        return Err(Refusal::NoRoom);
     }
+    put_head(out, Kind::Settlement, least);
+    writing::put_number(out, n);
+    Ok(least)
 }
 
-// Whether r is weak and has a context.
-fn weak_request_with_context(r: Request) -> bool
+// Whether r is weak and has a context; its parts show that each fits its field.
+fn weak_with_context(r: Request) -> bool
     ensures tells { result ≡ weak_with_context (request_message r) }
     ensures fits { Fits (request_message r) }
 {
     !r.asked.strong && !sets::is_empty(r.context)
-}
-
-// Writes m, for which there is room.
-fn put_message(out: &mut [u8], m: Message)
-    requires { size_of m ≤ length out.old }
-    ensures { out.new ≡ put out.old 0 (bytes_of m) }
-{
-    put_head(out, m.kind(), m.size());
-    match m {
-        Message::Request(r) => put_request(out, r),
-        Message::Settlement(n) => writing::put_number(out, n),
-    }
 }
 
 // Writes the length and the kind.
