@@ -1,4 +1,5 @@
-// Parts of standard input: a part is its length in three bytes, the lowest first, and then so many bytes.
+// Parts of standard input: a part is its length in three bytes, the lowest first, and then so many bytes. By `io` and not std's buffered
+// reader, which would need a handle in each program and read ahead of a part.
 #![tactic(auto)]
 
 ghost use Rattle.io.specs.Counts.{IsPrefixLen};

@@ -1,4 +1,4 @@
-// The printout of an input, written to standard output.
+// The printout of an input, written to standard output, by `io` and no `println!`: it goes out in one piece, unbuffered, as it always did.
 #![tactic(auto)]
 
 ghost use Rattle.std.specs.Prelude.{◌≡◌, length, take};
