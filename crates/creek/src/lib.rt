@@ -22,7 +22,8 @@ pub struct Invocation {
     pub clock: Clock,
 }
 
-// What a step or a settlement says, and a reply that falls due, in eight bytes: its response, a request's number, the mark and the refusal.
+// What a step or a settlement says, and a reply that falls due, in eight bytes: its response, a request's number, the mark and the refusal,
+// both as numbers, since the struct crosses to C and an enum does not.
 #[repr(C)]
 #[derive(Clone, Copy)]
 pub struct Reply {
@@ -32,7 +33,7 @@ pub struct Reply {
     pub refusal: u8,
 }
 
-// What a call answers: every field for every call, zeros where it has nothing to say.
+// What a call answers: every field for every call, zeros where it has nothing to say. It crosses to C, as a reply does.
 #[repr(C)]
 #[derive(Clone, Copy)]
 pub struct Answer {

@@ -4,11 +4,10 @@
 ghost use Rattle.std.specs.Prelude.{◌≡◌, length};
 ghost use Rattle.std.proofs.Math.Option.{some};
 ghost use Rattle.numbers.specs.Numbers.{most_panels};
-ghost use Rattle.numbers.specs.internal.Slots.{number_of as number_at};
 ghost use Rattle.request.specs.Refusal.{number_of, outcome_number};
 ghost use Rattle.request.specs.Request.{bad_context};
 ghost use Rattle.ordering.specs.Slots.{IsSlot};
-ghost use Rattle.store.specs.Requests.{request_of, request_at, Long};
+ghost use Rattle.store.specs.Requests.{request_at, Long};
 ghost use Rattle.creek.specs.Plan.{held_refusal};
 ghost use Rattle.creek.specs.Book.{deliver as deliver_call};
 ghost use Rattle.replica.specs.Memory.{memory, Done};
@@ -72,20 +71,10 @@ fn bad_context(panels: u8, x: &Request) -> bool
 
 // The refusal of a request whose number, that of the slot, is held.
 fn held_refusal(p: &Panel, slot: u16, x: &Request) -> Refusal
-    requires { IsSlot slot × Long p.now.clocks p.now.askings p.now.contexts × (length x.now.context.words ≡ most_panels) }
-    ensures { number_of result ≡ held_refusal (some (request_at p.now.clocks p.now.askings p.now.contexts slot))
-        (request_of (number_at slot) x.now.clock x.now.asked x.now.context.words) }
+    requires { IsSlot slot × Long p.now.clocks p.now.askings p.now.contexts }
+    ensures { number_of result ≡ held_refusal (some (request_at p.now.clocks p.now.askings p.now.contexts slot)) x.now }
 {
-    let same = store::same_at(
-        &p.clocks,
-        &p.askings,
-        &p.contexts,
-        slot,
-        x.clock,
-        x.asked,
-        &x.context.words,
-    );
-    if same {
+    if store::same_at(&p.clocks, &p.askings, &p.contexts, slot, x) {
         return Refusal::HeldAlready;
     }
     Refusal::NumberClash

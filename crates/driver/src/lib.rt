@@ -16,7 +16,7 @@ use encoding::calls;
 use replica::Panel;
 use request::refusal::{self, Refusal};
 
-// What a list of calls led to: how many were run, and refusal 20 without room for the answers, else fresh's.
+// What a list of calls led to: how many were run, and refusal 20 without room for the answers, else fresh's. A Result does not cross to C.
 #[repr(C)]
 #[derive(Clone, Copy)]
 pub struct ListResult {

@@ -12,7 +12,8 @@ use numbers::Number;
 use replica::Panel;
 use request::refusal;
 
-// What all due steps were: how many undos and executions, and the replies that fell due, of which there are `count`.
+// What all due steps were: how many undos and executions, and the replies that fell due, of which there are `count`: no heap,
+// and a Vec does not cross to C.
 #[repr(C)]
 #[derive(Clone, Copy)]
 pub struct DueSteps {

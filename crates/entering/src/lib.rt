@@ -19,15 +19,7 @@ pub fn enter(p: &mut Panel, slot: u16, at: usize, x: &Request)
     ordering::insert_at(&mut p.order, p.ordered, at, slot);
     members::join_at(&mut p.held, slot);
     know(&mut p.known, x.asked.strong, slot);
-    store::put_request(
-        &mut p.clocks,
-        &mut p.askings,
-        &mut p.contexts,
-        slot,
-        x.clock,
-        x.asked,
-        &x.context.words,
-    );
+    store::put_request(&mut p.clocks, &mut p.askings, &mut p.contexts, slot, x);
     p.ordered += 1;
     // What is executed agrees with the order up to the place of the request, which is not executed.
     p.executed = p.executed.min(at);

@@ -20,7 +20,7 @@ use request::refusal::Refusal;
 use wire::Kind;
 
 // What the message at a place led to: the answer, which has no request; which message it was; and its bytes. Number, kind and bytes are 0
-// where none could be read.
+// where none could be read; an Option does not cross to C.
 #[repr(C)]
 #[derive(Clone, Copy)]
 pub struct Receipt {

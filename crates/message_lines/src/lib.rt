@@ -54,6 +54,7 @@ pub fn put_messages(out: &mut [u8], from: usize, input: &[u8], p: &mut Panel) ->
     let mut at = SHOP_BYTES;
     let mut behind = from;
     let mut place: u64 = 1;
+    // A while, since each message says where the next one stands.
     while at < input.len() {
         let receipt = intake::receive(p, input, at);
         let taken = receipt.taken as usize;

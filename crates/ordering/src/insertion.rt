@@ -7,6 +7,8 @@ use super::order;
 // The place of the request of that clock reading and slot among the places from..to of the order: behind those at the front that it
 // does not come before. Looks at the last of them first, since most requests come behind it; then searches by halves: below `low` it
 // comes before none, from `high` on before all.
+//
+// The clocks and the order are lent apart, by which the compiler knows that they do not overlap.
 pub fn place<'a>(
     clocks: &'a [u32; 512],
     order: &'a [u16; 512],

@@ -30,7 +30,8 @@ pub use replies::{end_waiting, told};
 use request::Request;
 use request::refusal::Refusal;
 
-// A panel's memory. The spare bytes stand where the arrays would leave a gap: fresh clears them and no call changes them, so that equal
+// A panel's memory, with its counts beside the arrays and one array for each thing that is kept by slot: no heap, and a search that reads the
+// clocks reads nothing else. The spare bytes stand where the arrays would leave a gap: fresh clears them and no call changes them, so that equal
 // memories have equal bytes.
 #[repr(C)]
 #[derive(Drop)]
@@ -60,7 +61,7 @@ pub struct Panel {
     pub settled: [u64; 8],
 }
 
-// A register's value, or refusal 3.
+// A register's value, or refusal 3: a struct, since a Result does not cross to C.
 #[repr(C)]
 #[derive(Clone, Copy)]
 pub struct RegisterValue {
@@ -68,7 +69,7 @@ pub struct RegisterValue {
     pub refusal: u8,
 }
 
-// The request at a place of the standing order, or refusal 9.
+// The request at a place of the standing order, or refusal 9: a struct, since a Result does not cross to C.
 #[repr(C)]
 #[derive(Clone, Copy)]
 pub struct PlacedRequest {

@@ -26,7 +26,7 @@ pub fn put_refused(out: &mut [u8], at: usize, refusal: u64) -> usize
     text::put_line(out, at, b"board refused", &[refusal])
 }
 
-// Puts a message's line.
+// Puts a message's line; its numbers come from here and there, so that a struct of them would only name each once more.
 pub fn put_message(
     out: &mut [u8],
     at: usize,
@@ -53,7 +53,7 @@ pub fn put_unread(out: &mut [u8], at: usize, place: u64, refusal: u64) -> usize
     text::put_line(out, dashes_at, b" - - -", &[refusal, 0])
 }
 
-// Puts the line of the list lengths and the step totals.
+// Puts the line of the list lengths and the step totals, which have no struct either.
 pub fn put_totals(
     out: &mut [u8],
     at: usize,

@@ -4,6 +4,8 @@ ghost use Rattle.request.specs.Operations.{span, bad_operation};
 
 use super::Operation;
 
+// The codes are numbers: C and the bus bring any byte, a request with an unknown one is held, compared and printed as it is, and `exec` is
+// defined at every code.
 pub const READ: u8 = 1;
 
 pub const SET: u8 = 2;

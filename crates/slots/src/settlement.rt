@@ -40,7 +40,8 @@ fn counted_end<'a>(
 }
 
 // Of the places from..to of the order, those named are moved to the front of these places, and those that stay are put at the front of
-// the other array, both in their order; the place where those named end. A slot is stored on both sides, and counted where it belongs.
+// the other array, both in their order; the place where those named end. The arrays are lent apart, by which the compiler knows that they do
+// not overlap. A slot is stored on both sides, and counted where it belongs.
 fn separate(
     order: &mut [u16; 512],
     staying: &mut [u16; 512],

@@ -14,7 +14,7 @@ use numbers::Number;
 use replica::Panel;
 use request::refusal::{self, Refusal};
 
-// The status of a request, or a refusal with zeros.
+// The status of a request, or a refusal with zeros: a struct with flags, since an Option and a Result do not cross to C.
 #[repr(C)]
 #[derive(Clone, Copy)]
 pub struct RequestStatus {

@@ -64,10 +64,10 @@ pub fn context_at(contexts: &[u64; 4096], slot: usize) -> Context
 }
 
 // The request at a slot.
-pub fn request_at<'a>(
-    clocks: &'a [u32; 512],
-    askings: &'a [u64; 512],
-    contexts: &'a [u64; 4096],
+pub fn request_at(
+    clocks: &[u32; 512],
+    askings: &[u64; 512],
+    contexts: &[u64; 4096],
     slot: u16,
 ) -> Request
     requires { IsSlot slot × Long clocks.now askings.now contexts.now }
@@ -86,34 +86,18 @@ pub fn request_at<'a>(
     }
 }
 
-// The request of a slot's number with that clock reading, what it asks for, and those words of its context.
-fn request_of(slot: u16, clock: Clock, asked: Asked, words: &[u64; 8]) -> Request
-    ensures { result ≡ request_of (number_of slot) clock asked words.now }
-{
-    Request {
-        number: numbers::number_of(slot),
-        clock,
-        asked,
-        context: Context { words: *words },
-    }
-}
-
-// Whether the request at a slot is the one of the slot's number with that clock reading, what it asks for, and those words of its context.
-pub fn same_at<'a>(
-    clocks: &'a [u32; 512],
-    askings: &'a [u64; 512],
-    contexts: &'a [u64; 4096],
+// Whether the request at a slot is x.
+pub fn same_at(
+    clocks: &[u32; 512],
+    askings: &[u64; 512],
+    contexts: &[u64; 4096],
     slot: u16,
-    clock: Clock,
-    asked: Asked,
-    words: &'a [u64; 8],
+    x: &Request,
 ) -> bool
-    requires { IsSlot slot × Long clocks.now askings.now contexts.now × (length words.now ≡ most_panels) }
-    ensures { result ≡ same_request (request_at clocks.now askings.now contexts.now slot)
-        (request_of (number_of slot) clock asked words.now) }
+    requires { IsSlot slot × Long clocks.now askings.now contexts.now }
+    ensures { result ≡ same_request (request_at clocks.now askings.now contexts.now slot) x.now }
 {
-    let there = request_at(clocks, askings, contexts, slot);
-    there == request_of(slot, clock, asked, words)
+    request_at(clocks, askings, contexts, slot) == *x
 }
 
 // The word of what is asked for.
@@ -130,7 +114,7 @@ fn word_of(a: Asked) -> u64
 
 // Puts the words of a context at a slot; they are all read before any is written, by which the compiler moves several at once: the
 // library's `copy_from_slice` would test whether the two overlap.
-fn put_words<'a>(contexts: &mut [u64; 4096], slot: usize, words: &'a [u64; 8])
+fn put_words(contexts: &mut [u64; 4096], slot: usize, words: &[u64; 8])
     requires { IsSlot slot × (length words.now ≡ most_panels) }
     ensures { contexts.new ≡ sets contexts.old (most_panels * slot) words.now }
 {
@@ -141,23 +125,20 @@ fn put_words<'a>(contexts: &mut [u64; 4096], slot: usize, words: &'a [u64; 8])
     }
 }
 
-// Puts a request at its slot: its clock reading, what it asks for, and the words of its context.
-pub fn put_request<'a>(
+// Puts x at a slot: its clock reading, what it asks for, and the words of its context; its number is the slot's.
+pub fn put_request(
     clocks: &mut [u32; 512],
     askings: &mut [u64; 512],
     contexts: &mut [u64; 4096],
     slot: u16,
-    clock: Clock,
-    asked: Asked,
-    words: &'a [u64; 8],
+    x: &Request,
 )
-    requires { IsSlot slot × Long clocks.old askings.old contexts.old × (length words.now ≡ most_panels) }
+    requires { IsSlot slot × Long clocks.old askings.old contexts.old × (length x.now.context.words ≡ most_panels) }
     ensures { Stored clocks.old askings.old contexts.old slot
-        (request_of (number_of slot) clock asked words.now) clocks.new askings.new contexts.new }
+        (request_of (number_of slot) x.now.clock x.now.asked x.now.context.words) clocks.new askings.new contexts.new }
 {
     let s = slot as usize;
-    let word = word_of(asked);
-    clocks[s] = clock.0;
-    askings[s] = word;
-    put_words(contexts, s, words);
+    clocks[s] = x.clock.0;
+    askings[s] = word_of(x.asked);
+    put_words(contexts, s, &x.context.words);
 }

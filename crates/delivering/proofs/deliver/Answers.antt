@@ -11,7 +11,7 @@ use Rattle.sets.specs.Sets.{set_of, member}
 use Rattle.request.specs.Refusal.{accepted}
 use Rattle.request.proofs.RefusalLaws.{refuses}
 use Rattle.ordering.specs.Slots.{IsSlot}
-use Rattle.store.specs.Requests.{request_of, request_at}
+use Rattle.store.specs.Requests.{request_at}
 use Rattle.creek.specs.Plan.{held_refusal}
 use Rattle.replica.specs.State.{State}
 use Rattle.replica.specs.Memory.{memory}
@@ -59,7 +59,7 @@ returns-in_err-judged c =
     })
 
 pub held_refusal-requires : goal.held_refusal-requires
-held_refusal-requires c = (slot_is (goal.at.held_refusal-requires c).After-slot_of-slot, c.requires.inv.lengths.requests, c.requires.words)
+held_refusal-requires c = (slot_is (goal.at.held_refusal-requires c).After-slot_of-slot, c.requires.inv.lengths.requests)
 
 pub returns-then-member_at : goal.returns-then-member_at
 returns-then-member_at c =
@@ -70,8 +70,7 @@ returns-then-member_at c =
       kept =
           kept-held (before slot) x c.requires.inv (judged_new slot) (sym (held_is slot _ c.member_at.ensures) ∙ c.if-member_at.true) _
           c.slot_of-slot.ensures y refl _ _
-          (c.held_refusal.ensures
-          ∙ ap (λ (n : Number). held_refusal (some y) (request_of n x.clock x.asked x.context.words)) (number_is slot)) refl;
+          c.held_refusal.ensures refl;
       spare = refl;
     }
 

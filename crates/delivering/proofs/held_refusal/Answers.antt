@@ -2,8 +2,8 @@
 use mathlib.Core.Path.{sym, ◌∙◌}
 use Rattle.delivering.proofs.held_refusal.Goals as goal
 
-pub returns-then-same : goal.returns-then-same
-returns-then-same c = rw (sym c.same_at-same.ensures ∙ c.if-same.true)
+pub returns-then-same_at : goal.returns-then-same_at
+returns-then-same_at c = rw (sym c.same_at.ensures ∙ c.if-same_at.true)
 
 pub returns : goal.returns
-returns c = rw (sym c.same_at-same.ensures ∙ c.if-same.false)
+returns c = rw (sym c.same_at.ensures ∙ c.if-same_at.false)

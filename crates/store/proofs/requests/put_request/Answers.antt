@@ -5,4 +5,4 @@ use Rattle.store.proofs.requests.put_request.Goals as goal
 
 pub returns : goal.returns
 returns c =
-    stored _ c.requires.0 c.requires.1 c.word_of-word.ensures c.requires.2 refl refl c.put_words.ensures
+    stored _ c.requires.0 c.requires.1 c.word_of.ensures c.requires.2 refl refl c.put_words.ensures

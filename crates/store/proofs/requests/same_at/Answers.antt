@@ -6,7 +6,5 @@ use Rattle.store.proofs.requests.same_at.Goals as goal
 
 pub returns : goal.returns
 returns c =
-    let there = c.request_at-there.result in
-    let wanted = c.request_of.result in
-    let same : c.eq.result ≡ same_request there wanted = c.eq.ensures ∙ equal_request there wanted in
-    rw (c.request_at-there.ensures, c.request_of.ensures) at same
+    let same : c.eq.result ≡ same_request c.request_at.result c.args.x.now = c.eq.ensures ∙ equal_request c.request_at.result c.args.x.now in
+    rw c.request_at.ensures at same
