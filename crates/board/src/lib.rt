@@ -45,12 +45,12 @@ pub fn execute_at(p: &mut Panel, at: usize) -> Reply
             refusal: refusal::ACCEPTED,
         };
     }
-    let mark = mark_of(asked.strong, at < p.committed);
+    let mark = u8::from(mark_of(asked.strong, at < p.committed));
     replica::end_waiting(&mut p.awaiting, number, mark);
     Reply {
         response,
         number,
-        mark: u8::from(mark),
+        mark,
         refusal: refusal::ACCEPTED,
     }
 }

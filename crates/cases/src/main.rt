@@ -16,7 +16,7 @@ use sheet::MOST_INPUT;
 // A run ends after so many cases, where standard input does not end it sooner.
 const MOST_CASES: usize = 10000;
 
-// The sort of a list of calls.
+// The sort of a list of calls, as it stands in the input; every other byte is that of a printout, so that an enum would only name it twice.
 const CALLS: u8 = b'c';
 
 fn main() {

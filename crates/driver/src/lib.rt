@@ -53,10 +53,9 @@ fn run_all(p: &mut Panel, s: &[u8], count: usize, out: &mut [u8])
     requires room { Room out.old 0 (answers_bytes (model (memory p.old)) (entries_of s.now)) }
     ensures { RanAll (memory p.old) s.now out.old out.new (memory p.new) }
 {
-    let mut at = calls::CALLS_AT;
     let mut behind = 0;
-    for _ in 0..count {
+    for i in 0..count {
+        let at = calls::CALLS_AT + calls::CALL_SIZE * i;
         behind = entries::carry_out(p, s, at, out, behind);
-        at += calls::CALL_SIZE;
     }
 }

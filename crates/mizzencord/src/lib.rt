@@ -25,7 +25,8 @@ use numbers::{Number, PanelNo};
 pub use replica::Panel;
 use request::{Request, refusal};
 
-// Makes the lent panel one of a shift's first moment; a refused one is a one-panel shop, panel 0. The answer is the refusal.
+// Makes the lent panel one of a shift's first moment; a refused one is a one-panel shop, panel 0. The answer is the refusal by its number,
+// since a Result does not cross to C.
 #[unsafe(no_mangle)]
 pub extern "C" fn mizzencord_fresh(p: &mut Panel, panels: u8, own: PanelNo) -> u8
     ensures { Fresh panels own.0 (record { refusal = result; state = memory p.new })

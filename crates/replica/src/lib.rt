@@ -31,7 +31,7 @@ use request::Request;
 use request::refusal::Refusal;
 
 // A panel's memory, with its counts beside the arrays and one array for each thing that is kept by slot: no heap, and a search that reads the
-// clocks reads nothing else. The spare bytes stand where the arrays would leave a gap: fresh clears them and no call changes them, so that equal
+// clocks reads nothing else. The type has no invariant, since C lends memory that holds anything to fresh. The spare bytes stand where the arrays would leave a gap: fresh clears them and no call changes them, so that equal
 // memories have equal bytes.
 #[repr(C)]
 #[derive(Drop)]
@@ -88,7 +88,8 @@ struct Shop {
 const FIRST_PANEL: PanelNo = PanelNo(0);
 
 impl Panel {
-    // Memory for a panel, all zeros, which is to be made one by fresh.
+    // Memory for a panel, all zeros, which is to be made one by fresh. Fresh lists the fields once more, since a whole panel that is assigned
+    // stands on the stack before.
     pub fn zeros() -> Panel
         ensures { (memory result ≡ first_memory 0 (panel_no 0)) × (result.spare ≡ no_spare) }
     {

@@ -3,7 +3,7 @@ ghost use Rattle.std.specs.Prelude.{◌≡◌};
 ghost use Rattle.sets.specs.Sets.{set_of};
 ghost use Rattle.numbers.specs.Numbers.{no_number};
 ghost use Rattle.request.specs.Refusal.{outcome_number};
-ghost use Rattle.creek.specs.Replies.{refused_with, reply_in, mark_number, awaiting_after};
+ghost use Rattle.creek.specs.Replies.{refused_with, reply_in, awaiting_after};
 
 use creek::{Mark, Reply};
 use numbers::Number;
@@ -21,12 +21,11 @@ pub fn told(outcome: Result<(), Refusal>) -> Reply
     }
 }
 
-// Takes n from those who await a reply after one with that mark: weak and stable end the waiting.
-pub fn end_waiting(awaiting: &mut [u64; 8], n: Number, mark: Mark)
-    ensures { set_of awaiting.new ≡ awaiting_after (set_of awaiting.old) n (mark_number mark) }
+// Takes n from those who await a reply after one with that mark, as a reply has it: weak and stable end the waiting.
+pub fn end_waiting(awaiting: &mut [u64; 8], n: Number, mark: u8)
+    ensures { set_of awaiting.new ≡ awaiting_after (set_of awaiting.old) n mark }
 {
-    match mark {
-        Mark::Weak | Mark::Stable => members::leave(awaiting, n),
-        Mark::Nobody | Mark::Tentative => {}
+    if (mark == Mark::Weak as u8) | (mark == Mark::Stable as u8) {
+        members::leave(awaiting, n);
     }
 }

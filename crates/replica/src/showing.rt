@@ -1,4 +1,5 @@
-// The showing calls, which change nothing.
+// The showing calls, which change nothing. What is read as it stands asks nothing, and says what it is of a panel that came from fresh and
+// the calls.
 ghost use Rattle.std.specs.Prelude.{◌≡◌};
 ghost use Rattle.creek.specs.Showing.{requests_shown, commits_shown, undos_shown, executions_shown, owed_shown};
 ghost use Rattle.creek.specs.Showing.{panels_shown, own_shown, made_shown};
@@ -13,8 +14,7 @@ use request::refusal::{self, Refusal};
 impl Panel {
     // The value of register k, or refusal 3 with 0.
     pub fn register(&self, k: u8) -> RegisterValue
-        requires { Inv (memory self.now) }
-        ensures { RegisterShown (memory self.now) k result }
+        ensures { Inv (memory self.now) → RegisterShown (memory self.now) k result }
     {
         if operations::LAST_REGISTER < k {
             return RegisterValue {
@@ -30,40 +30,35 @@ impl Panel {
 
     // The count of accepted requests.
     pub fn requests(&self) -> usize
-        requires { Inv (memory self.now) }
-        ensures { result ≡ requests_shown (model (memory self.now)) }
+        ensures { Inv (memory self.now) → result ≡ requests_shown (model (memory self.now)) }
     {
         self.ordered
     }
 
     // The length of the settled list.
     pub fn committed(&self) -> usize
-        requires { Inv (memory self.now) }
-        ensures { result ≡ committed_shown (model (memory self.now)) }
+        ensures { Inv (memory self.now) → result ≡ committed_shown (model (memory self.now)) }
     {
         self.committed
     }
 
     // The count of accepted settlements.
     pub fn commits(&self) -> u32
-        requires { Inv (memory self.now) }
-        ensures { result ≡ commits_shown (model (memory self.now)) }
+        ensures { Inv (memory self.now) → result ≡ commits_shown (model (memory self.now)) }
     {
         self.commits
     }
 
     // The undos done.
     pub fn undos(&self) -> u32
-        requires { Inv (memory self.now) }
-        ensures { result ≡ undos_shown (model (memory self.now)) }
+        ensures { Inv (memory self.now) → result ≡ undos_shown (model (memory self.now)) }
     {
         self.counters.undos
     }
 
     // The executions done.
     pub fn executions(&self) -> u32
-        requires { Inv (memory self.now) }
-        ensures { result ≡ executions_shown (model (memory self.now)) }
+        ensures { Inv (memory self.now) → result ≡ executions_shown (model (memory self.now)) }
     {
         self.counters.executions
     }
@@ -78,24 +73,21 @@ impl Panel {
 
     // The number of panels of the shop.
     pub fn panels(&self) -> u8
-        requires { Inv (memory self.now) }
-        ensures { result ≡ panels_shown (model (memory self.now)) }
+        ensures { Inv (memory self.now) → result ≡ panels_shown (model (memory self.now)) }
     {
         self.panels
     }
 
     // The own panel.
     pub fn own(&self) -> u8
-        requires { Inv (memory self.now) }
-        ensures { result ≡ own_shown (model (memory self.now)) }
+        ensures { Inv (memory self.now) → result ≡ own_shown (model (memory self.now)) }
     {
         self.own.0
     }
 
     // The own requests made.
     pub fn made(&self) -> u8
-        requires { Inv (memory self.now) }
-        ensures { result ≡ made_shown (model (memory self.now)) }
+        ensures { Inv (memory self.now) → result ≡ made_shown (model (memory self.now)) }
     {
         self.events
     }

@@ -27,7 +27,7 @@ use Rattle.creek.specs.declared.Answer.{Answer}
 use Rattle.creek.specs.Plan.{has_number, last_event, last_clock, committing, committing_found}
 use Rattle.creek.specs.internal.Stack.{stacked}
 use Rattle.creek.specs.Book.{commit, Book, refusal, is_accepted, accepted, planned}
-use Rattle.creek.specs.Replies.{no_mark, stable_mark, reply, done, stable_reply_due, settlement_reply, accepted_answer, awaiting_after, accepted_awaiting}
+use Rattle.creek.specs.Replies.{stable_mark, reply, done, stable_reply_due, settlement_reply, accepted_answer, awaiting_after, accepted_awaiting}
 use Rattle.creek.specs.Calls.{accept, step}
 use Rattle.creek.specs.internal.Sound.{Sound, most_requests}
 use Rattle.creek.proofs.CallLaws.{answer-accepted, step-accepted}
@@ -68,10 +68,6 @@ same_answer true true v w e h = rw (h refl)
 same_answer false false v w e h = refl
 same_answer true false v w e h = true_not_false e refl
 same_answer false true v w e h = true_not_false refl e
-
-pub settled_mark_is : (due : Bool) (v : ℕ) → cond due stable_mark no_mark ≡ (settled_answer due v).mark
-settled_mark_is true v = refl
-settled_mark_is false v = refl
 
 -- ---- the outcome, under the number of the request at slot s
 

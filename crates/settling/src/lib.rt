@@ -2,13 +2,13 @@
 // come before are in the crate `committing`.
 #![tactic(auto)]
 
-ghost use Rattle.std.specs.Prelude.{cond, ◌≡◌};
+ghost use Rattle.std.specs.Prelude.{◌≡◌};
 ghost use Rattle.numbers.specs.internal.Slots.{slot_of};
 ghost use Rattle.sets.specs.Sets.{set_of};
 ghost use Rattle.slots.specs.Marks.{Marked};
 ghost use Rattle.request.specs.Refusal.{accepted, waits};
 ghost use Rattle.creek.specs.Book.{commit};
-ghost use Rattle.creek.specs.Replies.{no_mark, stable_mark, mark_number, reply_answer, refused_with};
+ghost use Rattle.creek.specs.Replies.{reply_answer, refused_with};
 ghost use Rattle.replica.specs.Memory.{memory, Done};
 ghost use Rattle.replica.specs.internal.Model.{Inv};
 ghost use Rattle.settling.specs.Settling.{early_refusal, missing_number, agreed, settled_answer, MarkAsks};
@@ -54,7 +54,7 @@ pub fn settle(p: &mut Panel, n: Number) -> Reply
     let due = members::member(&p.awaiting, n) & (count <= stays);
     members::join(&mut p.known, n);
     let reply = settled_reply(due, response);
-    replica::end_waiting(&mut p.awaiting, n, settled_mark(due));
+    replica::end_waiting(&mut p.awaiting, n, reply.mark);
     p.committed = count;
     p.executed = stays;
     p.commits += 1;
@@ -101,16 +101,6 @@ fn agreed(executed: usize, last: usize, start: usize) -> usize
         return executed;
     }
     start
-}
-
-// The mark of an accepted settlement's reply.
-fn settled_mark(due: bool) -> Mark
-    ensures { mark_number result ≡ cond due stable_mark no_mark }
-{
-    if due {
-        return Mark::Stable;
-    }
-    Mark::Nobody
 }
 
 // The reply of an accepted settlement: where a stable reply is due, that with the response.

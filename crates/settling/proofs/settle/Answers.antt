@@ -11,12 +11,10 @@ use Rattle.sets.specs.declared.Context.{Context}
 use Rattle.sets.specs.Sets.{set_of}
 use Rattle.replica.specs.State.{State}
 use Rattle.replica.specs.Memory.{memory}
-use Rattle.creek.specs.declared.Answer.{Answer}
-use Rattle.creek.specs.Replies.{awaiting_after}
 use Rattle.settling.specs.Settling.{missing_number}
 use Rattle.settling.proofs.SettlingHeldLaws.{HeldAt, held_slot, good_widened}
 use Rattle.settling.proofs.SettlingRefusalLaws.{Judged, early-passed, kept_waiting, settles}
-use Rattle.settling.proofs.SettlingLaws.{settled_mark_is, commits_fit, moves_asks, settled-kept}
+use Rattle.settling.proofs.SettlingLaws.{commits_fit, moves_asks, settled-kept}
 use Rattle.settling.proofs.settle.Goals as goal
 use Rattle.settling.proofs.settle.Goals.{After-missing, After-settle_moving-moved, After-slot_of-slot}
 
@@ -99,8 +97,7 @@ returns c =
           (ap (λ (b : Bool). b && leb c.settle_moving-moved.result.committed c.agreed-stays.result) c.member.ensures)
           c.join.ensures
           c.settled_reply-reply.ensures
-          (c.end_waiting.ensures
-          ∙ ap (awaiting_after p.awaiting c.args.n) (c.settled_mark.ensures ∙ settled_mark_is _ _ ∙ ap (λ (a : Answer). a.mark) (sym c.settled_reply-reply.ensures)))
+          c.end_waiting.ensures
           (subst (λ (x : Context). Marked p.settled.words x.words (slot_of c.args.n) c.mark.new.settled)
           c.context_at-context.ensures c.mark.ensures);
       spare = refl;

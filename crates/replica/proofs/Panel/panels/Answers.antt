@@ -3,4 +3,4 @@ use Rattle.replica.proofs.ShowingLaws.{panels_are}
 use Rattle.replica.proofs.Panel.panels.Goals as goal
 
 pub returns : goal.returns
-returns c = panels_are _ c.requires
+returns c = λ inv. panels_are _ inv

@@ -5,4 +5,4 @@ use Rattle.replica.proofs.Panel.undos.Goals as goal
 
 pub returns : goal.returns
 unfolding model
-returns c = refl
+returns c = λ inv. refl
