@@ -8,7 +8,7 @@ use lib.ListN.{length}
 use lib.Seq.{sets}
 use borrow.Author.Tests.{ltb-false}
 use Rattle.lists.proofs.BoolLaws.{true_not_false}
-use Rattle.text.specs.Placed.{Room}
+use Rattle.text.specs.Written.{Room}
 use Rattle.request.specs.Refusal.{no_room}
 use Rattle.creek.specs.Calls.{Replica}
 use Rattle.replica.specs.State.{State, Opened}
@@ -28,7 +28,7 @@ module _ (s out : List ℕ) where
 
   module _ (e : tight s out ≡ false) where
     -- with room there is room for the answers of any panel
-    pub room_for : (r : Replica) → Room out 0 (answers_bytes r (entries_of s))
+    pub room_for : (r : Replica) → Room out (answers_bytes r (entries_of s))
     room_for r = answers_room r s out (ltb-false (length out / answer_size) (call_count s) e)
 
     -- with room, where the shop that the bytes ask for was opened as o

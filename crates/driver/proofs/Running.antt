@@ -5,8 +5,9 @@ use mathlib.Core.List.{List, ◌∷◌, ◌++◌}
 use native.Mathlib.Nat.{sub-zero}
 use native.Mathlib.Omega.{arith}
 use lib.ListN.{length}
-use Rattle.text.specs.Placed.{Room}
-use Rattle.text.proofs.PlacedLaws.{Left, left_start, left_room, left_step, left_end}
+use borrow.Rule.Slice.PartMut.{mid_of, put_mid}
+use Rattle.text.specs.Written.{Room}
+use Rattle.text.proofs.WrittenLaws.{Left, left_start, left_fits, left_put, left_end, written_sets}
 use Rattle.creek.specs.Calls.{Replica}
 use Rattle.replica.specs.State.{State}
 use Rattle.replica.specs.internal.Model.{Inv, model}
@@ -31,7 +32,7 @@ pub record Running (p : State) (s : List ℕ) (count : ℕ) (out out₁ : List �
   pub place : at ≡ calls_at + call_size * i
   pub invariant : Inv q
   pub state : run_entries (model q) (entries_from s at (count - i)) ≡ run_entries (model p) (entries_of s)
-  pub answers : Left out 0 (answers_bytes (model p) (entries_of s)) out₁ behind (answers_bytes (model q) (entries_from s at (count - i)))
+  pub answers : Left out (answers_bytes (model p) (entries_of s)) out₁ behind (answers_bytes (model q) (entries_from s at (count - i)))
 
 pub run_start : (p : State) (s : List ℕ) (count : ℕ) (out : List ℕ) → Inv p → count ≡ call_count s
     → Running p s count out out p calls_at 0 0
@@ -41,7 +42,7 @@ run_start p s count out inv e = record {
   place = omega arith;
   invariant = inv;
   state = rw (sub-zero, e);
-  answers = rw (sub-zero, e) (left_start out 0 (answers_bytes (model p) (entries_of s)));
+  answers = rw (sub-zero, e) (left_start out (answers_bytes (model p) (entries_of s)));
 }
 
 -- a call lies within the bytes
@@ -57,7 +58,7 @@ behind_call s at count i = entries_from s (at + call_size) (count - (i + 1))
 -- where call i leads to r, its answer is the next of the answers that are left
 next_left : (p : State) (s : List ℕ) (count : ℕ) (out out₁ : List ℕ) (q : State) (at behind i : ℕ) → i < count
     → Running p s count out out₁ q at behind i → (r : Replica) → r ≡ after (model q) (entry_at s at)
-    → Left out 0 (answers_bytes (model p) (entries_of s)) out₁ behind
+    → Left out (answers_bytes (model p) (entries_of s)) out₁ behind
     (answer_bytes (answer_to (model q) (entry_at s at)) ++ answers_bytes r (behind_call s at count i))
 unfolding answers_bytes
 next_left p s count out out₁ q at behind i h now r leads = rw leads (rw (one-call s at count i h) at now.answers)
@@ -71,34 +72,36 @@ next-run p s count out out₁ q at behind i h now r leads = rw leads (rw (one-ca
 module _ {p : State} {s : List ℕ} {count : ℕ} {out out₁ : List ℕ} {q : State} {at behind i : ℕ}
     (now : Running p s count out out₁ q at behind i) (h : i < count) where
   -- there is room for the answer of call i
-  pub run_room : Room out 0 (answers_bytes (model p) (entries_of s)) → behind + answer_size ≤ length out₁
+  pub run_room : Room out (answers_bytes (model p) (entries_of s)) → behind + answer_size ≤ length out₁
   run_room r =
       let a = answer_to (model q) (entry_at s at) in
       let next = next_left p s count out out₁ q at behind i h now (after (model q) (entry_at s at)) refl in
-      omega (arith, (left_room (answer_bytes a) _ r next).fits, length-answer a)
+      omega (arith, left_fits (answer_bytes a) _ r next, length-answer a)
 
   -- call i, carried out and answered under any name of its entry
-  pub run_step : {x : Entry} {out₂ : List ℕ} {q₁ : State} {behind₂ : ℕ} → entry_at s at ≡ x → EntryPut q x out₁ behind q₁ out₂ behind₂
-      → Running p s count out out₂ q₁ (at + call_size) behind₂ (i + 1)
-  run_step {out₂ = out₂} {q₁ = q₁} {behind₂ = behind₂} e named =
-      let put : EntryPut q (entry_at s at) out₁ behind q₁ out₂ behind₂ = put_as {p = q} {q = q₁} e named in
+  pub run_step : {x : Entry} {new : List ℕ} {q₁ : State} {n : ℕ} → behind + answer_size ≤ length out₁ → entry_at s at ≡ x
+      → EntryPut q x (mid_of behind (length out₁ - behind) out₁) q₁ new n
+      → Running p s count out (put_mid behind (length out₁ - behind) out₁ new) q₁ (at + call_size) (behind + n) (i + 1)
+  run_step {new = new} {q₁ = q₁} {n = n} fits e named =
+      let put : EntryPut q (entry_at s at) (mid_of behind (length out₁ - behind) out₁) q₁ new n = put_as {p = q} {q = q₁} e named in
+      let long = length-answer (answer_to (model q) (entry_at s at)) in
       record {
         few = omega arith;
         place = omega (arith, now.place);
         invariant = put.invariant;
         state = next-run p s count out out₁ q at behind i h now (model q₁) put.state;
-        answers = left_step _ put.answer (next_left p s count out out₁ q at behind i h now (model q₁) put.state);
+        answers = left_put _ (omega (arith, fits, long)) put.answer (next_left p s count out out₁ q at behind i h now (model q₁) put.state);
       }
 
-pub run_end : (p : State) (s : List ℕ) (count : ℕ) (out out₁ : List ℕ) (q : State) (at behind i : ℕ) → count ≤ i
-    → Running p s count out out₁ q at behind i → RanAll p s out out₁ q
+pub run_end : (p : State) (s : List ℕ) (count : ℕ) (out out₁ : List ℕ) (q : State) (at behind i : ℕ)
+    → Room out (answers_bytes (model p) (entries_of s)) → count ≤ i → Running p s count out out₁ q at behind i → RanAll p s out out₁ q
 unfolding run_entries entries_from answers_bytes
-run_end p s count out out₁ q at behind i h now =
+run_end p s count out out₁ q at behind i room h now =
     let none : count - i ≡ 0 = omega arith in
     let last : model q ≡ run_entries (model p) (entries_of s) = rw none at now.state in
     record {
       state = last;
       calls = last ∙ sym (run_expanded (model p) (entries_of s));
-      answers = (left_end (rw none at now.answers)).bytes;
+      answers = written_sets room (left_end (rw none at now.answers));
       invariant = now.invariant;
     }

@@ -5,7 +5,7 @@
 #![tactic(auto)]
 
 ghost use Rattle.std.specs.Prelude.{◌≡◌};
-ghost use Rattle.text.specs.Placed.{Room};
+ghost use Rattle.text.specs.Written.{Room};
 ghost use Rattle.replica.specs.Memory.{memory};
 ghost use Rattle.replica.specs.internal.Model.{Inv, model};
 ghost use Rattle.encoding.specs.Encoding.{call_count, entries_of, answers_bytes};
@@ -50,12 +50,12 @@ pub fn run_list(calls: &[u8], out: &mut [u8]) -> ListResult
 fn run_all(p: &mut Panel, s: &[u8], count: usize, out: &mut [u8])
     requires inv { Inv (memory p.old) }
     requires count_value { count ≡ call_count s.now }
-    requires room { Room out.old 0 (answers_bytes (model (memory p.old)) (entries_of s.now)) }
+    requires room { Room out.old (answers_bytes (model (memory p.old)) (entries_of s.now)) }
     ensures { RanAll (memory p.old) s.now out.old out.new (memory p.new) }
 {
     let mut behind = 0;
     for i in 0..count {
         let at = calls::CALLS_AT + calls::CALL_SIZE * i;
-        behind = entries::carry_out(p, s, at, out, behind);
+        behind += entries::carry_out(p, s, at, &mut out[behind..]);
     }
 }

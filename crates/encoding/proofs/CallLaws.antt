@@ -8,7 +8,7 @@ use mathlib.Core.List.{List}
 use lib.ListN.{get_or}
 use lib.Dec.{eqb}
 use borrow.Author.Tests.{eq-eqb, ne_eqb, eqb-true}
-use Rattle.text.specs.Placed.{Placed}
+use Rattle.text.specs.Written.{Written}
 use Rattle.lists.proofs.BoolLaws.{true_not_false}
 use Rattle.creek.specs.declared.Answer.{Answer}
 use Rattle.creek.specs.Book.{Call, invoke, undo, execute}
@@ -74,21 +74,19 @@ call_taken tag m e = rw (ne_eqb tag invoke_tag e) refl
 
 -- ---- an entry whose answer was put
 
-pub put-done : {p q : State} {x : Entry} {a : Answer} {out out' : List ℕ} {at behind : ℕ}
-    → Done p x (record { answer = a; state = q }) → Placed out at (answer_bytes a) out' behind → EntryPut p x out at q out' behind
-put-done {out = out} {out' = out'} {at = at} {behind = behind} d w = record {
-  answer = subst (λ (a : Answer). Placed out at (answer_bytes a) out' behind) d.answer w;
+pub put-done : {p q : State} {x : Entry} {a : Answer} {out out' : List ℕ} {n : ℕ} → Done p x (record { answer = a; state = q })
+    → Written out (answer_bytes a) out' n → EntryPut p x out q out' n
+put-done {out = out} {out' = out'} {n = n} d w = record {
+  answer = subst (λ (a : Answer). Written out (answer_bytes a) out' n) d.answer w;
   state = d.state;
   invariant = d.invariant;
 }
 
 -- the same entry under another name
-pub put_as : {p q : State} {x y : Entry} {out out' : List ℕ} {at behind : ℕ} → x ≡ y → EntryPut p y out at q out' behind
-    → EntryPut p x out at q out' behind
-put_as {p} {q} {out = out} {out' = out'} {at = at} {behind = behind} e d =
-    subst (λ (x : Entry). EntryPut p x out at q out' behind) (sym e) d
+pub put_as : {p q : State} {x y : Entry} {out out' : List ℕ} {n : ℕ} → x ≡ y → EntryPut p y out q out' n → EntryPut p x out q out' n
+put_as {p} {q} {out = out} {out' = out'} {n = n} e d = subst (λ (x : Entry). EntryPut p x out q out' n) (sym e) d
 
 -- a call that was kept, whose answer was put
-pub put-kept : {p q : State} {c : Call} {a : Answer} {out out' : List ℕ} {at behind : ℕ}
-    → Kept p c (record { answer = a; state = q }) → Placed out at (answer_bytes a) out' behind → EntryPut p (one c) out at q out' behind
+pub put-kept : {p q : State} {c : Call} {a : Answer} {out out' : List ℕ} {n : ℕ} → Kept p c (record { answer = a; state = q })
+    → Written out (answer_bytes a) out' n → EntryPut p (one c) out q out' n
 put-kept {p} {q} k w = put-done (done-one p _ _ k) w

@@ -7,7 +7,7 @@ use native.Mathlib.Omega.{arith}
 use lib.ListN.{length, length-append, length-replicate}
 use lib.Seq.{sets, length-sets}
 use borrow.Author.Tests.{ltb-false}
-use Rattle.text.specs.Placed.{Room}
+use Rattle.text.specs.Written.{Room}
 use Rattle.request.specs.declared.Request.{Request}
 use Rattle.creek.specs.declared.Answer.{Answer}
 use Rattle.creek.specs.Calls.{Replica}
@@ -49,7 +49,7 @@ length-answers r (c ∷ cs) =
     )
 
 -- out has room for the answers
-pub answers_room : (r : Replica) (s out : List ℕ) → call_count s ≤ length out / answer_size → Room out 0 (answers_bytes r (entries_of s))
+pub answers_room : (r : Replica) (s out : List ℕ) → call_count s ≤ length out / answer_size → Room out (answers_bytes r (entries_of s))
 unfolding entries_of
 answers_room r s out h = record { fits = omega (arith, length-answers r (entries_of s), length_calls s calls_at (call_count s)) }
 

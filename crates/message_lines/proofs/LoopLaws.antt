@@ -6,8 +6,9 @@ use mathlib.Core.List.{List, [], ◌∷◌, ◌++◌}
 use native.Mathlib.Numerals.{add-one}
 use native.Mathlib.Omega.{arith}
 use lib.ListN.{length}
-use Rattle.text.specs.Placed.{Placed}
-use Rattle.text.proofs.PlacedLaws.{Left, left_start, left_step, left_end}
+use borrow.Rule.Slice.PartMut.{mid_of, put_mid}
+use Rattle.text.specs.Written.{Written}
+use Rattle.text.proofs.WrittenLaws.{Left, left_start, left_put, left_end}
 use Rattle.report.specs.Lines.{message_line, unread_line}
 use Rattle.report.specs.Sizes.{most_message_bytes}
 use Rattle.report.proofs.SizeLaws.{unread_short}
@@ -106,28 +107,28 @@ idle-by {p} {r} ran = record {
 }
 
 -- what was put and received up to a place, where what is left to do from there is the whole job
-pub record Putting (p₀ : State) (s out : List ℕ) (from : ℕ) (p : State) (out₁ : List ℕ) (at behind place : ℕ) : Type 0 where
+pub record Putting (p₀ : State) (s out : List ℕ) (p : State) (out₁ : List ℕ) (at behind place : ℕ) : Type 0 where
   pub inside : at ≤ length s
   pub invariant : Inv p
   pub state : after_all (model p) (found_from s at) ≡ after_all (model p₀) (found_from s shop_bytes)
-  pub lines : Left out from (message_lines 1 (model p₀) (found_from s shop_bytes)) out₁ behind (message_lines place (model p) (found_from s at))
-  pub few : behind + most_message_bytes ≤ from + place * most_message_bytes
+  pub lines : Left out (message_lines 1 (model p₀) (found_from s shop_bytes)) out₁ behind (message_lines place (model p) (found_from s at))
+  pub few : behind + most_message_bytes ≤ place * most_message_bytes
   -- each message took the bytes of the shortest
   pub paced : least_message * place + shop_bytes ≤ at + least_message
 
-pub put_start : (s out : List ℕ) (from : ℕ) (p : State) → Inv p → shop_bytes ≤ length s → Putting p s out from p out shop_bytes from 1
-put_start s out from p inv h = record {
+pub put_start : (s out : List ℕ) (p : State) → Inv p → shop_bytes ≤ length s → Putting p s out p out shop_bytes 0 1
+put_start s out p inv h = record {
   inside = h;
   invariant = inv;
   state = refl;
-  lines = left_start out from (message_lines 1 (model p) (found_from s shop_bytes));
+  lines = left_start out (message_lines 1 (model p) (found_from s shop_bytes));
   few = omega arith;
   paced = omega arith;
 }
 
-module _ {p₀ : State} {s out : List ℕ} {from : ℕ} {p : State} {out₁ : List ℕ} {at behind place : ℕ}
-    (put : Putting p₀ s out from p out₁ at behind place) where
-  pub put-end : length s ≤ at → length s ≤ most_input → AllPut p₀ s out from p out₁ behind
+module _ {p₀ : State} {s out : List ℕ} {p : State} {out₁ : List ℕ} {at behind place : ℕ}
+    (put : Putting p₀ s out p out₁ at behind place) where
+  pub put-end : length s ≤ at → length s ≤ most_input → AllPut p₀ s out p out₁ behind
   unfolding after_all message_lines
   put-end past low = record {
     state = rw (none_found s at past) at put.state;
@@ -137,27 +138,30 @@ module _ {p₀ : State} {s out : List ℕ} {from : ℕ} {p : State} {out₁ : Li
   }
 
   module _ (below : at < length s) where
-    pub line_room : from + most_messages * most_message_bytes ≤ length out → length s ≤ most_input
+    pub line_room : most_messages * most_message_bytes ≤ length out → length s ≤ most_input
         → (behind + most_message_bytes ≤ length out₁) × (place ≤ most_input)
     line_room room low = (omega (arith, put.few, put.paced, put.lines.size), omega (arith, put.paced))
 
     module _ {r : Receipt} {q : State} (got : Received p (read_at s at) r q) where
       -- what cannot be read is the last that is found
-      pub put_last : {out₂ : List ℕ} {behind₂ : ℕ} → r.taken ≡ 0 → length s ≤ most_input → r.reply.refusal < 2 ^ 8
-          → Placed out₁ behind (unread_line place r.reply.refusal) out₂ behind₂ → AllPut p₀ s out from q out₂ behind₂
+      pub put_last : {new : List ℕ} {n : ℕ} → r.taken ≡ 0 → length s ≤ most_input → r.reply.refusal < 2 ^ 8
+          → most_messages * most_message_bytes ≤ length out
+          → Written (mid_of behind (length out₁ - behind) out₁) (unread_line place r.reply.refusal) new n
+          → AllPut p₀ s out q (put_mid behind (length out₁ - behind) out₁ new) (behind + n)
       unfolding after_all after message_lines line_for received
-      put_last untaken low small w =
+      put_last untaken low small room w =
           let f = r.reply.refusal in
           let is : read_at s at ≡ refused f =
           refused_by_lem (model p) (read_at s at) r got.taken got.answer (not_at_end s at below) (taken_least s at) untaken in
           let last : found_from s at ≡ refused f ∷ [] =
           one_found s at below ∙ rw is (ap (λ (l : List Outcome). refused f ∷ l) (none_found s (at + (length s - at)) (omega arith))) in
           let stays : model q ≡ model p = got.state ∙ rw is in
+          let short = unread_short place f (omega (arith, put.paced)) small in
           record {
             state = stays ∙ rw last at put.state;
             invariant = got.invariant;
-            lines = left_end (left_step [] w (rw last at put.lines));
-            few = omega (arith, put.few, put.paced, w.place, unread_short place f (omega (arith, put.paced)) small);
+            lines = left_end (left_put [] (omega (arith, (line_room room low).0, short)) w (rw last at put.lines));
+            few = omega (arith, put.few, put.paced, w.count, short);
           }
 
       module _ (took : r.taken ≡ 0 → ⊥) where
@@ -170,10 +174,11 @@ module _ {p₀ : State} {s out : List ℕ} {from : ℕ} {p : State} {out₁ : Li
             (omega arith, least, inside)
 
         module _ {q₁ : State} {n₁ : ℕ} (ran : Idle q q₁ n₁) where
-          pub put_step : {out₂ : List ℕ} {behind₂ : ℕ} → LinePut place r.kind r.number r.reply.refusal n₁ out₁ behind out₂ behind₂
-              → Putting p₀ s out from q₁ out₂ (at + r.taken) behind₂ (place + 1)
+          pub put_step : {new : List ℕ} {n : ℕ} → behind + most_message_bytes ≤ length out₁
+              → LinePut place r.kind r.number r.reply.refusal n₁ (mid_of behind (length out₁ - behind) out₁) new n
+              → Putting p₀ s out q₁ (put_mid behind (length out₁ - behind) out₁ new) (at + r.taken) (behind + n) (place + 1)
           unfolding after_all after refusal_in answer_to received
-          put_step {out₂} {behind₂} w =
+          put_step fits w =
               let there = message_there s at got took in
               let m = there.0 in
               let n = r.taken in
@@ -196,7 +201,7 @@ module _ {p₀ : State} {s out : List ℕ} {from : ℕ} {p : State} {out₁ : Li
                 inside = size.2;
                 invariant = ran.invariant;
                 state = ap (λ (x : Replica). after_all x rest) stands ∙ sym (ap (after_all (model p)) one) ∙ put.state;
-                lines = left_step _ w.written (subst (Left out from whole out₁ behind) lines put.lines);
+                lines = left_put _ (omega (arith, fits, w.few, w.written.count)) w.written (subst (Left out whole out₁ behind) lines put.lines);
                 few = omega (arith, put.few, w.few);
                 paced = omega (arith, put.paced, size.1);
               }

@@ -1,4 +1,4 @@
-// The messages of the printout: each that is found in the input is received by the panel, and its line is put into lent bytes.
+// The messages of the printout: each that is found in the input is received by the panel, and its line is put at the front of lent bytes.
 #![tactic(auto)]
 
 ghost use Rattle.std.specs.Prelude.{◌+◌, ◌*◌, ◌≤◌, length};
@@ -15,15 +15,14 @@ use replica::Panel;
 pub const SHOP_BYTES: usize = 2;
 
 // Puts the line of the message that a receipt tells of, after which so many steps were undone.
-fn put_line(out: &mut [u8], at: usize, place: u64, receipt: Receipt, undone: u32) -> usize
-    requires most_message_bytes_in_bounds { at + most_message_bytes ≤ length out.old }
+fn put_line(out: &mut [u8], place: u64, receipt: Receipt, undone: u32) -> usize
+    requires most_message_bytes_in_bounds { most_message_bytes ≤ length out.old }
     requires place_le_most_input { place ≤ most_input }
-    ensures { LinePut place receipt.kind receipt.number receipt.reply.refusal undone out.old at out.new result }
+    ensures { LinePut place receipt.kind receipt.number receipt.reply.refusal undone out.old out.new result }
 {
     let number = receipt.number;
     report::put_message(
         out,
-        at,
         place,
         receipt.kind as u64,
         number.panel.0 as u64,
@@ -43,26 +42,27 @@ fn idle(p: &mut Panel) -> u32
 }
 
 // Receives what is found behind the shop's bytes, message by message, calls due steps until the panel is idle, and puts each line; what
-// cannot be read is the last.
-pub fn put_messages(out: &mut [u8], from: usize, input: &[u8], p: &mut Panel) -> usize
+// cannot be read is the last. Returns how many bytes the lines have.
+pub fn put_messages(out: &mut [u8], input: &[u8], p: &mut Panel) -> usize
     requires inv { Inv (memory p.old) }
     requires shop_bytes_in_bounds { shop_bytes ≤ length input.now }
     requires input_len_bound { length input.now ≤ most_input }
-    requires most_message_bytes_in_bounds { from + most_messages * most_message_bytes ≤ length out.old }
-    ensures { AllPut (memory p.old) input.now out.old from (memory p.new) out.new result }
+    requires most_message_bytes_in_bounds { most_messages * most_message_bytes ≤ length out.old }
+    ensures { AllPut (memory p.old) input.now out.old (memory p.new) out.new result }
 {
     let mut at = SHOP_BYTES;
-    let mut behind = from;
+    let mut behind = 0;
     let mut place: u64 = 1;
     // A while, since each message says where the next one stands.
     while at < input.len() {
         let receipt = intake::receive(p, input, at);
         let taken = receipt.taken as usize;
         if taken == 0 {
-            return report::put_unread(out, behind, place, receipt.reply.refusal as u64);
+            let refusal = receipt.reply.refusal as u64;
+            return behind + report::put_unread(&mut out[behind..], place, refusal);
         }
         let undone = idle(p);
-        behind = put_line(out, behind, place, receipt, undone);
+        behind += put_line(&mut out[behind..], place, receipt, undone);
         at += taken;
         place += 1;
     }

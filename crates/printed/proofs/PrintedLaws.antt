@@ -1,13 +1,12 @@
 -- Laws of printing into lent bytes, in this order: too few of them; enough of them; what is left of them; what is returned.
 use Prim.Native.Nat.{ℕ, ◌+◌, ◌≤◌, ◌<◌}
-use native.Mathlib.Nat.{zero-add}
 use native.Mathlib.Omega.{arith}
 use mathlib.Core.Path.{◌≡◌, ap, ◌∙◌}
 use mathlib.Core.List.{List, [], ◌++◌}
 use lib.ListN.{length, get_or, take, drop, length-append}
-use lib.Seq.{sets-eq, get_or-append-add, get_or-drop}
+use lib.Seq.{get_or-append-add, get_or-drop}
 use borrow.Author.Tests.{lt-ltb, le-ltb}
-use Rattle.text.specs.Placed.{Placed}
+use Rattle.text.specs.Written.{Written}
 use Rattle.printed.specs.Printout.{most_input, most_printed, printout, printed_text, after_print, Printed}
 
 module _ (input out : List ℕ) where
@@ -29,15 +28,10 @@ module _ (input out : List ℕ) where
   text-whole enough = rw (le-ltb (length out) most_printed enough)
 
   -- the printout of as much of the input as is read stands at their front, and its length is returned
-  pub printed-whole : (out' : List ℕ) (n : ℕ) → most_printed ≤ length out → n ≤ most_printed
-      → Placed out 0 (printout (take most_input input)) out' n → Printed input out out' n
+  pub printed-whole : (out' : List ℕ) (n : ℕ) → most_printed ≤ length out → Written out (printout (take most_input input)) out' n
+      → Printed input out out' n
   unfolding after_print
-  printed-whole out' n enough fits put =
-      let text = printout (take most_input input) in
-      let size : n ≡ length text = omega (arith, put.place) in
-      let front : out' ≡ text ++ drop (length text) out =
-      put.bytes ∙ rw (zero-add (length text)) at (sets-eq text out 0 (omega arith)) in
-      record { returned = rw (text-whole enough) size; after = rw (text-whole enough) front }
+  printed-whole out' n enough put = record { returned = rw (text-whole enough) put.count; after = rw (text-whole enough) put.bytes }
 
   -- ---- what is left of them
 

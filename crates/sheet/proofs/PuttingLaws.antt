@@ -8,8 +8,9 @@ use lib.ListN.{length, get_or, length-append}
 use borrow.Author.Tests.{lt-ltb, le-ltb}
 use Rattle.request.specs.Operations.{last_register}
 use Rattle.request.specs.Refusal as refused_by
-use Rattle.text.specs.Placed.{Placed}
-use Rattle.text.proofs.PlacedLaws.{then}
+use borrow.Rule.Slice.PartMut.{mid_of, put_mid}
+use Rattle.text.specs.Written.{Written}
+use Rattle.text.proofs.WrittenLaws.{then}
 use Rattle.report.specs.Lines.{board_line, refused_line, totals_line, register_lines}
 use Rattle.creek.specs.Calls.{Replica, bad_shop, fresh_refusal, fresh}
 use Rattle.creek.specs.Showing.{undos_shown, executions_shown}
@@ -90,20 +91,23 @@ pub fresh_good : (panels own : ℕ) → refused_by.accepted ≡ fresh_refusal pa
 fresh_good panels own f = opened_by_lem panels own (bad_shop panels own) refl f
 
 -- the lines of a shift, from those of its messages and the closing lines
-pub shift_put : {s out out₁ out₂ : List ℕ} {at at₁ at₂ : ℕ} {p q : State} → AllPut p s out at q out₁ at₁
-    → ClosingPut q out₁ at₁ out₂ at₂
-    → Placed out at (message_lines 1 (model p) (found_from s shop_bytes) ++ closing (after_all (model p) (found_from s shop_bytes))) out₂ at₂
-shift_put {out₁ = out₁} {out₂ = out₂} {at₁ = at₁} {at₂ = at₂} {q = q} put last =
+pub shift_put : {s out out₁ new : List ℕ} {at n : ℕ} {p q : State} → AllPut p s out q out₁ at
+    → ClosingPut q (mid_of at (length out₁ - at) out₁) new n
+    → Written out (message_lines 1 (model p) (found_from s shop_bytes) ++ closing (after_all (model p) (found_from s shop_bytes)))
+    (put_mid at (length out₁ - at) out₁ new) (at + n)
+shift_put {out₁ = out₁} {new = new} {at = at} {n = n} {q = q} put last =
     let closes = sym (closing_is q put.invariant) ∙ ap closing put.state in
-    then put.lines (subst (λ (text : List ℕ). Placed out₁ at₁ text out₂ at₂) closes last.written)
+    then put.lines (subst (λ (text : List ℕ). Written (mid_of at (length out₁ - at) out₁) text new n) closes last.written)
 
 -- a good shop's printout: the board's line, and the lines of the shift that fresh begins
-pub printed : (s : List ℕ) {out out₁ out₂ : List ℕ} {at₁ at₂ : ℕ} {r : Replica} → shop_bytes ≤ length s
+pub printed : (s : List ℕ) {out out₁ new : List ℕ} {at n : ℕ} {r : Replica} → shop_bytes ≤ length s
     → bad_shop (get_or s 0 0) (get_or s 1 0) ≡ false → r ≡ fresh (get_or s 0 0) (get_or s 1 0)
-    → Placed out 0 (board_line (get_or s 0 0) (get_or s 1 0)) out₁ at₁
-    → Placed out₁ at₁ (message_lines 1 r (found_from s shop_bytes) ++ closing (after_all r (found_from s shop_bytes))) out₂ at₂
-    → Placed out 0 (printout s) out₂ at₂
-printed s {out₁ = out₁} {out₂ = out₂} {at₁ = at₁} {at₂ = at₂} h good opened first shift =
+    → Written out (board_line (get_or s 0 0) (get_or s 1 0)) out₁ at
+    → Written (mid_of at (length out₁ - at) out₁)
+    (message_lines 1 r (found_from s shop_bytes) ++ closing (after_all r (found_from s shop_bytes))) new n
+    → Written out (printout s) (put_mid at (length out₁ - at) out₁ new) (at + n)
+printed s {out₁ = out₁} {new = new} {at = at} {n = n} h good opened first shift =
     let found = found_from s shop_bytes in
-    let lines = subst (λ (x : Replica). Placed out₁ at₁ (message_lines 1 x found ++ closing (after_all x found)) out₂ at₂) opened shift in
+    let part = mid_of at (length out₁ - at) out₁ in
+    let lines = subst (λ (x : Replica). Written part (message_lines 1 x found ++ closing (after_all x found)) new n) opened shift in
     rw (printout_good s h good) (then first lines)

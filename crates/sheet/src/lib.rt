@@ -31,41 +31,40 @@ pub const MOST_PRINTED: usize = MOST_BOARD_BYTES
     + MOST_REGISTERS_BYTES;
 
 // Puts the list lengths, the step totals and the registers of a panel.
-fn put_closing(out: &mut [u8], at: usize, p: &Panel) -> usize
+fn put_closing(out: &mut [u8], p: &Panel) -> usize
     requires inv { Inv (memory p.now) }
-    requires most_registers_bytes_in_bounds { at + most_totals_bytes + most_registers_bytes ≤ length out.old }
-    ensures { ClosingPut (memory p.now) out.old at out.new result }
+    requires most_registers_bytes_in_bounds { most_totals_bytes + most_registers_bytes ≤ length out.old }
+    ensures { ClosingPut (memory p.now) out.old out.new result }
 {
-    let registers_at = report::put_totals(
+    let at = report::put_totals(
         out,
-        at,
         p.committed as u64,
         (p.ordered - p.committed) as u64,
         p.counters.undos as u64,
         p.counters.executions as u64,
     );
-    put_registers(out, registers_at, &p.registers)
+    at + put_registers(&mut out[at..], &p.registers)
 }
 
 // Puts a line for each register that is not 0; a slice's type says how great its numbers are at most, and so how long the lines.
-fn put_registers(out: &mut [u8], at: usize, registers: &[u32]) -> usize
+fn put_registers(out: &mut [u8], registers: &[u32]) -> usize
     requires all { length registers.now ≡ suc last_register }
-    requires most_registers_bytes_in_bounds { at + most_registers_bytes ≤ length out.old }
-    ensures { RegistersPut registers.now out.old at out.new result }
+    requires most_registers_bytes_in_bounds { most_registers_bytes ≤ length out.old }
+    ensures { RegistersPut registers.now out.old out.new result }
 {
-    report::put_registers(out, at, registers)
+    report::put_registers(out, registers)
 }
 
 // Puts the lines of a shift that begins with that panel: those of the messages found behind the shop's bytes, and the closing lines.
-fn put_shift(out: &mut [u8], at: usize, input: &[u8], p: &mut Panel) -> usize
+fn put_shift(out: &mut [u8], input: &[u8], p: &mut Panel) -> usize
     requires inv { Inv (memory p.old) }
     requires shop_bytes_in_bounds { shop_bytes ≤ length input.now }
     requires input_len_bound { length input.now ≤ most_input }
-    requires most_shift_bytes_in_bounds { at + most_shift_bytes ≤ length out.old }
-    ensures { ShiftPut (memory p.old) input.now out.old at out.new result }
+    requires most_shift_bytes_in_bounds { most_shift_bytes ≤ length out.old }
+    ensures { ShiftPut (memory p.old) input.now out.old out.new result }
 {
-    let closing_at = message_lines::put_messages(out, at, input, p);
-    put_closing(out, closing_at, p)
+    let at = message_lines::put_messages(out, input, p);
+    at + put_closing(&mut out[at..], p)
 }
 
 // Puts the printout of at most MOST_INPUT bytes.
@@ -75,19 +74,19 @@ fn put_printout(out: &mut [u8], input: &[u8]) -> usize
     ensures { PrintoutPut input.now out.old out.new result }
 {
     if input.len() < SHOP_BYTES {
-        return report::put_refused(out, 0, u8::from(Refusal::CutShort) as u64);
+        return report::put_refused(out, u8::from(Refusal::CutShort) as u64);
     }
     let panels = input[0];
     let own = input[1];
     let mut panel = Panel::zeros();
     if let Err(w) = panel.fresh(panels, PanelNo(own)) {
-        return report::put_refused(out, 0, u8::from(w) as u64);
+        return report::put_refused(out, u8::from(w) as u64);
     }
-    let at = report::put_board(out, 0, panels as u64, own as u64);
-    put_shift(out, at, input, &mut panel)
+    let at = report::put_board(out, panels as u64, own as u64);
+    at + put_shift(&mut out[at..], input, &mut panel)
 }
 
-// Puts the printout of the input, of which at most MOST_INPUT bytes are read, at the front of `out` and returns the place behind it. An
+// Puts the printout of the input, of which at most MOST_INPUT bytes are read, at the front of `out` and returns how many bytes it has. An
 // `out` of under MOST_PRINTED bytes is left alone, and 0 is returned.
 pub fn print(out: &mut [u8], input: &[u8]) -> usize
     ensures { Printed input.now out.old out.new result }

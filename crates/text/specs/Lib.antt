@@ -1,4 +1,4 @@
 -- What the contracts cite: the texts, where they are put, and how long they get.
 pub mod Text
-pub mod Placed
+pub mod Written
 pub mod Sizes

@@ -1,4 +1,4 @@
--- Text as a list of bytes: words, numbers in decimal, and lines of fields. Where a text stands in lent bytes is in `Placed`.
+-- Text as a list of bytes: words, numbers in decimal, and lines of fields. What a text makes of lent bytes is in `Written`.
 use Rattle.std.specs.Prelude.{ℕ, zero, suc, ◌+◌, ◌/◌, ◌%◌, List, [], ◌∷◌, ◌++◌, map}
 use Prim.Native.Char.{code}
 use Prim.Native.String.{String, [] as []ᵗ, ◌∷◌ as ◌∷ᵗ◌}

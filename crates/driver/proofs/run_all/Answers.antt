@@ -3,6 +3,7 @@ use Prim.Native.Nat.{◌+◌, ◌*◌, ◌^◌, ◌≤◌, ◌<◌}
 use native.Mathlib.Omega.{arith}
 use mathlib.Core.Path.{◌≡◌, refl}
 use lib.ListN.{length}
+use Rattle.text.proofs.WrittenLaws.{mid_long}
 use Rattle.encoding.specs.Encoding.{calls_at, call_size}
 use Rattle.driver.proofs.Running.{run_start, call_within, run_room, run_step, run_end}
 use Rattle.driver.proofs.run_all.Goals as goal
@@ -29,13 +30,15 @@ pub carry_out-behind-requires : goal.carry_out-behind-requires
 carry_out-behind-requires c = record {
   inv = c.loop-i.invariant.invariant;
   at_in_bounds = omega (arith, within (goal.at.carry_out-behind-requires c).In-loop-i);
-  answer_size_in_bounds = run_room c.loop-i.invariant c.loop-i-test.true c.requires.room;
+  answer_size_in_bounds =
+      omega (arith, mid_long c.loop-i.behind c.loop-i.out, run_room c.loop-i.invariant c.loop-i-test.true c.requires.room);
 }
 
 pub loop-i-preserved : goal.loop-i-preserved
 loop-i-preserved c =
     let next : calls_at + call_size * (c.loop-i.i + 1) ≡ calls_at + call_size * c.loop-i.i + call_size = omega arith in
-    rw next (run_step c.loop-i.invariant c.loop-i-test.true refl c.carry_out-behind.ensures)
+    let room = run_room c.loop-i.invariant c.loop-i-test.true c.requires.room in
+    rw next (run_step c.loop-i.invariant c.loop-i-test.true room refl c.carry_out-behind.ensures)
 
 pub returns : goal.returns
-returns c = run_end _ _ _ _ _ _ _ _ _ c.loop-i-test.false c.loop-i.invariant
+returns c = run_end _ _ _ _ _ _ _ _ _ c.requires.room c.loop-i-test.false c.loop-i.invariant

@@ -1,7 +1,7 @@
 -- The run of a list of entries as functions on a panel and proofs speak of it, and the calls that entries stand for.
 use Rattle.std.specs.Prelude.{ℕ, ◌≡◌, cond, if◌then◌else◌, Option, Some, None, List, [], ◌∷◌, ◌++◌, eqb}
 use Rattle.std.proofs.lemmas.List.Edits.{sets}
-use Rattle.text.specs.Placed.{Placed}
+use Rattle.text.specs.Written.{Written}
 use Rattle.numbers.specs.Numbers.{no_number}
 use Rattle.request.specs.Refusal as refused
 use Rattle.creek.specs.declared.Answer.{Answer}
@@ -29,9 +29,9 @@ pub record Done (p : State) (x : Entry) (r : Called) : Type 0 where
   pub state : model r.state ≡ after (model p) x
   pub invariant : Inv r.state
 
--- the entry was carried out on p, which is q then, and its answer was put at a place
-pub record EntryPut (p : State) (x : Entry) (out : List ℕ) (at : ℕ) (q : State) (out' : List ℕ) (behind : ℕ) : Type 0 where
-  pub answer : Placed out at (answer_bytes (answer_to (model p) x)) out' behind
+-- the entry was carried out on p, which is q then, and its answer was put at the front
+pub record EntryPut (p : State) (x : Entry) (out : List ℕ) (q : State) (out' : List ℕ) (n : ℕ) : Type 0 where
+  pub answer : Written out (answer_bytes (answer_to (model p) x)) out' n
   pub state : model q ≡ after (model p) x
   pub invariant : Inv q
 

@@ -27,4 +27,4 @@ put_message-requires c =
 pub returns : goal.returns
 returns c =
     let w = c.put_message.ensures in
-    record { written = w; few = omega (arith, w.place, short (goal.at.returns c).Start) }
+    record { written = w; few = omega (arith, w.count, short (goal.at.returns c).Start) }

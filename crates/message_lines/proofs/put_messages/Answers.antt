@@ -4,7 +4,7 @@ use native.Mathlib.Omega.{arith}
 use mathlib.Core.Path.{refl, ◌∙◌}
 use lib.ListN.{length}
 use borrow.Author.Rules.{rules}
-use Rattle.text.proofs.PlacedLaws.{same_size}
+use Rattle.text.proofs.WrittenLaws.{mid_long}
 use Rattle.report.specs.Sizes.{most_message_bytes}
 use Rattle.report.proofs.SizeLaws.{unread_short}
 use Rattle.wire.specs.Layout.{least_message}
@@ -14,7 +14,7 @@ use Rattle.message_lines.proofs.put_messages.Goals as goal
 use Rattle.message_lines.proofs.put_messages.Goals.{After-receive-receipt, Else-taken-eq0, In-loop-at}
 
 pub loop-at-init : goal.loop-at-init
-loop-at-init c = put_start _ _ _ _ c.requires.inv c.requires.shop_bytes_in_bounds
+loop-at-init c = put_start _ _ _ c.requires.inv c.requires.shop_bytes_in_bounds
 
 -- ---- the turn
 
@@ -40,14 +40,11 @@ put_unread-requires c =
     let short = unread_short c.loop-at.place c.receive-receipt.result.reply.refusal (omega (arith, fits.1)) (small t.After-receive-receipt) in
     record { fits = omega (arith, fits.0, short) }
 
-pub shape_of-out-then-taken-eq0 : goal.shape_of-out-then-taken-eq0
-shape_of-out-then-taken-eq0 c = same_size c.put_unread.ensures ∙ c.loop-at.invariant.lines.size
-
 pub returns-then-taken-eq0 : goal.returns-then-taken-eq0
 returns-then-taken-eq0 c =
     let put = c.loop-at.invariant in
     put_last put c.loop-at-test.true c.receive-receipt.ensures.0 c.if-taken-eq0.true c.requires.input_len_bound
-    (small (goal.at.returns-then-taken-eq0 c).After-receive-receipt) c.put_unread.ensures
+    (small (goal.at.returns-then-taken-eq0 c).After-receive-receipt) c.requires.most_message_bytes_in_bounds c.put_unread.ensures
 
 -- ---- a message
 
@@ -67,7 +64,7 @@ idle-undone-requires c = c.receive-receipt.ensures.0.invariant
 pub put_line-behind-requires : goal.put_line-behind-requires
 put_line-behind-requires c =
     let fits = room (goal.at.put_line-behind-requires c).In-loop-at in
-    record { most_message_bytes_in_bounds = fits.0; place_le_most_input = fits.1 }
+    record { most_message_bytes_in_bounds = omega (arith, mid_long c.loop-at.behind c.loop-at.out, fits.0); place_le_most_input = fits.1 }
 
 pub overflow_add-at : goal.overflow_add-at
 overflow_add-at c = omega (arith, (inside (goal.at.overflow_add-at c).Else-taken-eq0).2, c.requires.input_len_bound)
@@ -82,7 +79,7 @@ loop-at-smaller c =
 
 pub loop-at-preserved : goal.loop-at-preserved
 loop-at-preserved c =
-    put_step c.loop-at.invariant c.loop-at-test.true c.receive-receipt.ensures.0 c.if-taken-eq0.false c.idle-undone.ensures c.put_line-behind.ensures
+    put_step c.loop-at.invariant c.loop-at-test.true c.receive-receipt.ensures.0 c.if-taken-eq0.false c.idle-undone.ensures (room (goal.at.loop-at-preserved c).In-loop-at).0 c.put_line-behind.ensures
 
 -- ---- the end
 

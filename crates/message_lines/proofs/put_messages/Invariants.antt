@@ -6,7 +6,7 @@ use Rattle.message_lines.proofs.LoopLaws.{Putting}
 use Rattle.message_lines.proofs.put_messages.Given as goal
 
 abbrev pub invariant-loop-at : goal.invariant-loop-at
-invariant-loop-at l = Putting (memory l.initial.p) l.input l.initial.out l.from (memory l.p) l.out l.at l.behind l.place
+invariant-loop-at l = Putting (memory l.initial.p) l.input l.initial.out (memory l.p) l.out l.at l.behind l.place
 
 abbrev pub decreases-loop-at : goal.decreases-loop-at
 decreases-loop-at l =

@@ -3,7 +3,7 @@ use Prim.Native.Nat.{ℕ}
 use mathlib.Core.Path.{◌≡◌}
 use borrow.Author.Tests.{eq-eqb, ne_eqb}
 use Rattle.text.specs.Text.{ascii, rest_of_line, line}
-use Rattle.text.proofs.PlacedLaws.{nothing}
+use Rattle.text.proofs.WrittenLaws.{nothing}
 use Rattle.report.specs.Lines.{register_line, line_unless_zero}
 use Rattle.report.proofs.put_register.Goals as goal
 
@@ -13,7 +13,7 @@ has-line register value some = rw (ne_eqb value 0 some)
 
 pub returns-then-value-eq0 : goal.returns-then-value-eq0
 unfolding line_unless_zero
-returns-then-value-eq0 c = rw (eq-eqb c.args.value 0 c.if-value-eq0.true) (nothing _ _)
+returns-then-value-eq0 c = rw (eq-eqb c.args.value 0 c.if-value-eq0.true) (nothing _)
 
 pub put_line-requires : goal.put_line-requires
 unfolding register_line line rest_of_line ascii

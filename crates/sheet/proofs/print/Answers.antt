@@ -20,7 +20,7 @@ returns-then-input-le-MOST_INPUT c =
     let put = c.put_printout.ensures in
     let input = c.args.input.now in
     let all = take_all most_input input c.if-input-le-MOST_INPUT.true in
-    printed-whole input _ _ _ (omega arith) put.few (rw all put.written)
+    printed-whole input _ _ _ (omega arith) (rw all put.written)
 
 pub slice_bounds-put_printout-end : goal.slice_bounds-put_printout-end
 slice_bounds-put_printout-end c = sym (cut (goal.at.slice_bounds-put_printout-end c).Else-input-le-MOST_INPUT)
@@ -34,4 +34,4 @@ put_printout-requires-2 c = record {
 pub returns : goal.returns
 returns c =
     let put = c.put_printout-2.ensures in
-    printed-whole _ _ _ _ (omega arith) put.few put.written
+    printed-whole _ _ _ _ (omega arith) put.written

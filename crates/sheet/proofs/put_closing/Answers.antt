@@ -2,7 +2,7 @@
 use Prim.Native.Nat.{◌-◌, ◌<◌, ◌≤◌, ◌^◌}
 use native.Mathlib.Omega.{arith}
 use lib.ListN.{length}
-use Rattle.text.proofs.PlacedLaws.{then, same_size}
+use Rattle.text.proofs.WrittenLaws.{then, mid_long}
 use Rattle.report.specs.Lines.{totals_line}
 use Rattle.report.specs.Sizes.{most_totals_bytes}
 use Rattle.report.proofs.SizeLaws.{totals_short}
@@ -17,21 +17,21 @@ totals_fit c =
     let inv = c.requires.inv in
     totals_short _ _ _ _ (omega (arith, inv.counts)) (omega (arith, inv.counts)) (omega (arith, undos_fit _ inv)) (omega (arith, executions_fit _ inv))
 
-pub put_totals-registers_at-requires : goal.put_totals-registers_at-requires
-put_totals-registers_at-requires c =
-    record { fits = omega (arith, c.requires.most_registers_bytes_in_bounds, totals_fit (goal.at.put_totals-registers_at-requires c).Start) }
+pub put_totals-at-requires : goal.put_totals-at-requires
+put_totals-at-requires c =
+    record { fits = omega (arith, c.requires.most_registers_bytes_in_bounds, totals_fit (goal.at.put_totals-at-requires c).Start) }
 
 pub put_registers-requires : goal.put_registers-requires
 put_registers-requires c =
-    let first = c.put_totals-registers_at.ensures in
+    let first = c.put_totals-at.ensures in
     let totals = totals_fit (goal.at.put_registers-requires c).Start in
     record {
       all = registers_all _ c.requires.inv;
-      most_registers_bytes_in_bounds = omega (arith, c.requires.most_registers_bytes_in_bounds, first.place, same_size first, totals);
+      most_registers_bytes_in_bounds = omega (arith, c.requires.most_registers_bytes_in_bounds, first.count, mid_long c.put_totals-at.result c.put_totals-at.new.out, c.put_totals-at.auto.out, totals);
     }
 
 pub returns : goal.returns
 returns c =
-    let first = c.put_totals-registers_at.ensures in
+    let first = c.put_totals-at.ensures in
     let second = c.put_registers.ensures in
-    record { written = then first second.written; few = omega (arith, first.place, second.few, totals_fit (goal.at.returns c).Start) }
+    record { written = then first second.written; few = omega (arith, first.count, second.few, totals_fit (goal.at.returns c).Start) }

@@ -9,7 +9,7 @@ use Rattle.request.specs.Refusal as refusal
 use Rattle.request.specs.Refusal.{outcome_number}
 use Rattle.request.proofs.RefusalLaws.{refuses}
 use Rattle.creek.specs.Calls.{bad_shop}
-use Rattle.text.proofs.PlacedLaws.{same_size}
+use Rattle.text.proofs.WrittenLaws.{mid_long}
 use Rattle.report.specs.Lines.{board_line}
 use Rattle.report.specs.Sizes.{most_board_bytes}
 use Rattle.report.proofs.SizeLaws.{board_short, refused_short}
@@ -28,7 +28,7 @@ returns-then-input-lt-SHOP_BYTES c =
     let w = rw c.from.ensures at c.put_refused.ensures in
     record {
       written = rw (printout_short _ c.if-input-lt-SHOP_BYTES.true) w;
-      few = omega (arith, w.place, refused_short refusal.cut_short (omega arith));
+      few = omega (arith, w.count, refused_short refusal.cut_short (omega arith));
     }
 
 -- the shop is bad, and its refusal is told
@@ -47,7 +47,7 @@ returns-in-Err c =
     let w = rw (c.from-in-Err.ensures, bad.1) at c.put_refused-in-Err.ensures in
     record {
       written = rw (printout_bad _ c.if-input-lt-SHOP_BYTES.false bad.0) w;
-      few = omega (arith, w.place, refused_short refusal.bad_shop (omega arith));
+      few = omega (arith, w.count, refused_short refusal.bad_shop (omega arith));
     }
 
 -- ---- a good shop: the board's line
@@ -72,11 +72,8 @@ put_shift-requires c =
       inv = c.fresh.ensures.0.invariant;
       shop_bytes_in_bounds = c.if-input-lt-SHOP_BYTES.false;
       input_len_bound = c.requires.input_len_bound;
-      most_shift_bytes_in_bounds = omega (arith, c.requires.most_printed_in_bounds, w.place, same_size w, fits);
+      most_shift_bytes_in_bounds = omega (arith, c.requires.most_printed_in_bounds, w.count, mid_long c.put_board-at.result c.put_board-at.new.out, c.put_board-at.auto.out, fits);
     }
-
-pub shape_of-out : goal.shape_of-out
-shape_of-out c = same_size c.put_shift.ensures.written ∙ same_size c.put_board-at.ensures
 
 pub returns : goal.returns
 returns c =
@@ -87,5 +84,5 @@ returns c =
     let good = fresh_good _ _ (sym (ap outcome_number c.in_default.is) ∙ f.refusal) in
     record {
       written = printed _ long good f.state w z.written;
-      few = omega (arith, w.place, board_fits (goal.at.returns c).Else-input-lt-SHOP_BYTES, z.few);
+      few = omega (arith, w.count, board_fits (goal.at.returns c).Else-input-lt-SHOP_BYTES, z.few);
     }

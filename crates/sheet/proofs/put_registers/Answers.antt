@@ -15,4 +15,4 @@ put_registers-requires c =
 pub returns : goal.returns
 returns c =
     let short = registers_short _ c.requires.all (λ k. omega (arith, c.type_inv.registers k)) in
-    record { written = c.put_registers.ensures; few = omega (arith, c.put_registers.ensures.place, short) }
+    record { written = c.put_registers.ensures; few = omega (arith, c.put_registers.ensures.count, short) }

@@ -1,12 +1,12 @@
 -- `put_shift` meets its contract.
 use native.Mathlib.Omega.{arith}
 use mathlib.Core.Path.{sym, ◌∙◌}
-use Rattle.text.proofs.PlacedLaws.{same_size}
+use Rattle.text.proofs.WrittenLaws.{mid_long}
 use Rattle.sheet.proofs.PuttingLaws.{shift_put}
 use Rattle.sheet.proofs.put_shift.Goals as goal
 
-pub put_messages-closing_at-requires : goal.put_messages-closing_at-requires
-put_messages-closing_at-requires c = record {
+pub put_messages-at-requires : goal.put_messages-at-requires
+put_messages-at-requires c = record {
   inv = c.requires.inv;
   shop_bytes_in_bounds = c.requires.shop_bytes_in_bounds;
   input_len_bound = c.requires.input_len_bound;
@@ -15,17 +15,14 @@ put_messages-closing_at-requires c = record {
 
 pub put_closing-requires : goal.put_closing-requires
 put_closing-requires c =
-    let m = c.put_messages-closing_at.ensures in
+    let m = c.put_messages-at.ensures in
     record {
       inv = m.invariant;
-      most_registers_bytes_in_bounds = omega (arith, c.requires.most_shift_bytes_in_bounds, m.few, same_size m.lines);
+      most_registers_bytes_in_bounds = omega (arith, c.requires.most_shift_bytes_in_bounds, m.few, m.lines.count, mid_long c.put_messages-at.result c.put_messages-at.new.out, c.put_messages-at.auto.out);
     }
-
-pub shape_of-out : goal.shape_of-out
-shape_of-out c = same_size c.put_closing.ensures.written ∙ same_size c.put_messages-closing_at.ensures.lines
 
 pub returns : goal.returns
 returns c =
     let z = c.put_closing.ensures in
-    let m = c.put_messages-closing_at.ensures in
+    let m = c.put_messages-at.ensures in
     record { written = shift_put m z; few = omega (arith, m.few, z.few) }
