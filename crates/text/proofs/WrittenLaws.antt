@@ -39,6 +39,13 @@ same_size {out} {text} r w = ap length w.bytes ∙ omega (arith, length-append t
 pub written_sets : {out text out' : List ℕ} {n : ℕ} → Room out text → Written out text out' n → out' ≡ sets out 0 text
 written_sets {out} {text} r w = w.bytes ∙ sym (rw (zero-add (length text)) at (sets-eq text out 0 (omega (arith, r.fits))))
 
+-- and what a text that was put from a place on makes of the whole
+pub written_at : (out : List ℕ) (at : ℕ) {text new : List ℕ} {n : ℕ} → at + length text ≤ length out
+    → Written (mid_of at (length out - at) out) text new n → put_mid at (length out - at) out new ≡ sets out at text
+written_at out at {text} {new} fits w =
+    let rest = w.bytes ∙ ap (λ r. text ++ drop (length text) r) (mid_end at out) ∙ ap (λ r. text ++ r) (drop-drop (length text) at out) in
+    put_end at out new ∙ ap (λ r. take at out ++ r) rest ∙ sym (append_assoc (take at out) text _) ∙ sym (sets-eq text out at fits)
+
 -- ---- one text behind another
 
 -- no text
