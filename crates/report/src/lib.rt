@@ -3,7 +3,7 @@
 // Every function puts one line of `specs/Lines`, or the registers' lines, at the front of `out`, leaves every byte behind it alone and
 // returns how many bytes it has. `out` must have room for the line: whoever lends the bytes for a whole printout tests their length,
 // and `proofs/SizeLaws` says how long each line is at most, as `sizes` has it.
-#![tactic(auto)]
+#![tactic(auto, unfolding(crate::specs::Lines::board_line, crate::specs::Lines::refused_line, crate::specs::Lines::message_line, crate::specs::Lines::unread_line, crate::specs::Lines::totals_line, text::specs::Text::line, text::specs::Text::rest_of_line, text::specs::Text::ascii))]
 
 pub mod sizes;
 
@@ -11,7 +11,6 @@ ghost use Rattle.text.specs.Written.{Room, Written};
 ghost use Rattle.report.specs.Lines.{board_line, refused_line, message_line, unread_line, totals_line, line_unless_zero, register_lines};
 
 // Puts the line of a good shop.
-#[tactic(auto, unfolding(crate::specs::Lines::board_line, text::specs::Text::line, text::specs::Text::rest_of_line, text::specs::Text::ascii))]
 pub fn put_board(out: &mut [u8], panels: u64, own: u64) -> usize
     requires { Room out.old (board_line panels own) }
     ensures { Written out.old (board_line panels own) out.new result }
@@ -20,7 +19,6 @@ pub fn put_board(out: &mut [u8], panels: u64, own: u64) -> usize
 }
 
 // Puts the line of a refused shop.
-#[tactic(auto, unfolding(crate::specs::Lines::refused_line, text::specs::Text::line, text::specs::Text::rest_of_line, text::specs::Text::ascii))]
 pub fn put_refused(out: &mut [u8], refusal: u64) -> usize
     requires { Room out.old (refused_line refusal) }
     ensures { Written out.old (refused_line refusal) out.new result }
@@ -29,7 +27,6 @@ pub fn put_refused(out: &mut [u8], refusal: u64) -> usize
 }
 
 // Puts a message's line; its numbers come from here and there, so that a struct of them would only name each once more.
-#[tactic(auto, unfolding(crate::specs::Lines::message_line, text::specs::Text::line, text::specs::Text::rest_of_line, text::specs::Text::ascii))]
 pub fn put_message(
     out: &mut [u8],
     place: u64,
@@ -47,7 +44,6 @@ pub fn put_message(
 }
 
 // Puts the line of a message that cannot be read.
-#[tactic(auto, unfolding(crate::specs::Lines::unread_line, text::specs::Text::line, text::specs::Text::rest_of_line, text::specs::Text::ascii))]
 pub fn put_unread(out: &mut [u8], place: u64, refusal: u64) -> usize
     requires { Room out.old (unread_line place refusal) }
     ensures { Written out.old (unread_line place refusal) out.new result }
@@ -57,7 +53,6 @@ pub fn put_unread(out: &mut [u8], place: u64, refusal: u64) -> usize
 }
 
 // Puts the line of the list lengths and the step totals, which have no struct either.
-#[tactic(auto, unfolding(crate::specs::Lines::totals_line, text::specs::Text::line, text::specs::Text::rest_of_line, text::specs::Text::ascii))]
 pub fn put_totals(out: &mut [u8], settled: u64, unsettled: u64, undone: u64, carried: u64) -> usize
     requires { Room out.old (totals_line settled unsettled undone carried) }
     ensures { Written out.old (totals_line settled unsettled undone carried) out.new result }
