@@ -32,15 +32,22 @@ pub enum Step {
     AllDue = 4,
 }
 
+// The tags of the steps, for a match.
+const UNDO: u8 = Step::Undo as u8;
+
+const EXECUTE: u8 = Step::Execute as u8;
+
+const ALL_DUE: u8 = Step::AllDue as u8;
+
 impl Step {
     // The step of that tag, where it is one's.
     pub fn with_tag(tag: u8) -> Option<Step>
         ensures { result ≡ step_with tag }
     {
         match tag {
-            2 => Some(Step::Undo),
-            3 => Some(Step::Execute),
-            4 => Some(Step::AllDue),
+            UNDO => Some(Step::Undo),
+            EXECUTE => Some(Step::Execute),
+            ALL_DUE => Some(Step::AllDue),
             _ => None,
         }
     }
