@@ -4,7 +4,7 @@ use Rattle.request.specs.Refusal.{accepted}
 use Rattle.request.specs.Request.{bare_request, no_request}
 use Rattle.wire.specs.declared.Message.TheVariants.{Request as request, Settlement as settlement}
 use Rattle.wire.specs.Message.{BusMessage, Fits}
-use Rattle.wire.specs.Reader.{Outcome, message, end, refused}
+use Rattle.wire.specs.Reader.{Outcome, message, end, refused, refusal_of, taken_of}
 use Rattle.wire.specs.Writer.{write_answer, after_write}
 use Rattle.c_messages.specs.declared.Message.{Message}
 use Rattle.c_messages.specs.declared.Reading.{Reading}
@@ -23,11 +23,15 @@ message_for m = cond m.settles (settlement m.request.number) (request m.request)
 abbrev pub unread : ℕ → Reading
 unread w = record { refusal = w; taken = 0; message = shown_for (request no_request) }
 
+-- the message that stands there, zeros where none does
+abbrev pub shown_in : Outcome → Message
+shown_in (message m n) = shown_for m
+shown_in end = shown_for (request no_request)
+shown_in (refused w) = shown_for (request no_request)
+
 -- the refusal's number, 0 for a message and for the end; the bytes taken; and the message
 abbrev pub read_from : Outcome → Reading
-read_from (message m n) = record { refusal = accepted; taken = n; message = shown_for m }
-read_from end = unread accepted
-read_from (refused w) = unread w
+read_from o = record { refusal = refusal_of o; taken = taken_of o; message = shown_in o }
 
 -- the refusal's number, 0 where there is none, and the bytes written, which are none where it is refused
 abbrev pub written_for : Result ℕ ℕ → Written
