@@ -1,2 +1,2 @@
--- What only functions over the parts of a panel and proofs cite.
+-- What only functions on a panel and proofs cite.
 pub mod Running

@@ -1,3 +1,3 @@
--- The map to `creek` and the invariant, and what only functions over the parts of a panel and proofs cite.
+-- The map to `creek` and the invariant, and what only functions on a panel and proofs cite.
 pub mod Cores
 pub mod Model
