@@ -30,9 +30,9 @@ pub use replies::{end_waiting, told};
 use request::Request;
 use request::refusal::Refusal;
 
-// A panel's memory, with its counts beside the arrays and one array for each thing that is kept by slot: no heap, and a search that reads the
-// clocks reads nothing else. The type has no invariant, since C lends memory that holds anything to fresh. The spare bytes stand where the arrays would leave a gap: fresh clears them and no call changes them, so that equal
-// memories have equal bytes.
+// A panel's memory, with its counts beside the arrays and one array for each thing that is kept by slot: no heap, and a search that reads
+// the clocks reads nothing else. The type has no invariant, since C lends memory that holds anything to fresh. The spare bytes stand where
+// the arrays would leave a gap: fresh clears them and no call changes them, so that equal memories have equal bytes.
 #[repr(C)]
 #[derive(Drop)]
 pub struct Panel {
@@ -175,8 +175,8 @@ fn shop_of(bad: bool, panels: u8, own: PanelNo) -> Shop
     Shop { panels, own }
 }
 
-// The test behind refusal 1.
-fn bad_shop(panels: u8, own: PanelNo) -> bool
+// The test behind refusal 1, which a caller asks where it wants no panel for a bad shop.
+pub fn bad_shop(panels: u8, own: PanelNo) -> bool
     ensures { result ≡ bad_shop panels own.0 }
 {
     !((1 <= panels) & (panels <= numbers::MOST_PANELS)) | !(own.0 < panels)

@@ -4,7 +4,7 @@
 ghost use Rattle.std.specs.Prelude.{◌≡◌, suc, ◌+◌, ◌≤◌, length};
 ghost use Rattle.request.specs.Operations.{last_register};
 ghost use Rattle.report.specs.Sizes.{most_totals_bytes, most_registers_bytes};
-ghost use Rattle.replica.specs.Memory.{memory};
+ghost use Rattle.replica.specs.Memory.{memory, SameSpare};
 ghost use Rattle.replica.specs.internal.Model.{Inv};
 ghost use Rattle.printed.specs.Printout.{shop_bytes, most_input, most_printed, Printed};
 ghost use Rattle.sheet.specs.Putting.{ClosingPut, RegistersPut, most_shift_bytes, ShiftPut, PrintoutPut};
@@ -61,7 +61,7 @@ fn put_shift(out: &mut [u8], input: &[u8], p: &mut Panel) -> usize
     requires shop_bytes_in_bounds { shop_bytes ≤ length input.now }
     requires input_len_bound { length input.now ≤ most_input }
     requires most_shift_bytes_in_bounds { most_shift_bytes ≤ length out.old }
-    ensures { ShiftPut (memory p.old) input.now out.old out.new result }
+    ensures { ShiftPut (memory p.old) input.now out.old out.new result × SameSpare p.old p.new }
 {
     let at = message_lines::put_messages(out, input, p);
     at + put_closing(&mut out[at..], p)
@@ -77,12 +77,14 @@ fn put_printout(out: &mut [u8], input: &[u8]) -> usize
         return report::put_refused(out, u8::from(Refusal::CutShort) as u64);
     }
     let panels = input[0];
-    let own = input[1];
-    let mut panel = Panel::zeros();
-    if let Err(w) = panel.fresh(panels, PanelNo(own)) {
-        return report::put_refused(out, u8::from(w) as u64);
+    let own = PanelNo(input[1]);
+    // Before there is a panel, whose memory a bad shop would clear for nothing.
+    if replica::bad_shop(panels, own) {
+        return report::put_refused(out, u8::from(Refusal::BadShop) as u64);
     }
-    let at = report::put_board(out, panels as u64, own as u64);
+    let mut panel = Panel::zeros();
+    let _opened = panel.fresh(panels, own);
+    let at = report::put_board(out, panels as u64, own.0 as u64);
     at + put_shift(&mut out[at..], input, &mut panel)
 }
 

@@ -1,21 +1,16 @@
 -- `put_printout` meets its contract.
-use Prim.Native.Nat.{ℕ, ◌≤◌}
+use Prim.Native.Nat.{◌≤◌}
 use native.Mathlib.Omega.{arith}
-use mathlib.Core.Path.{◌≡◌, sym, ap, ◌∙◌}
-use mathlib.Core.Bool.{true}
-use mathlib.Core.List.{List}
+use mathlib.Core.Path.{sym, ◌∙◌}
 use lib.ListN.{length, get_or}
 use Rattle.request.specs.Refusal as refusal
-use Rattle.request.specs.Refusal.{outcome_number}
-use Rattle.request.proofs.RefusalLaws.{refuses}
-use Rattle.creek.specs.Calls.{bad_shop}
 use Rattle.text.proofs.WrittenLaws.{mid_long}
 use Rattle.report.specs.Lines.{board_line}
 use Rattle.report.specs.Sizes.{most_board_bytes}
 use Rattle.report.proofs.SizeLaws.{board_short, refused_short}
-use Rattle.sheet.proofs.PuttingLaws.{printout_short, printout_bad, fresh_bad, fresh_good, printed}
+use Rattle.sheet.proofs.PuttingLaws.{printout_short, printout_bad, printed}
 use Rattle.sheet.proofs.put_printout.Goals as goal
-use Rattle.sheet.proofs.put_printout.Goals.{Else-input-lt-SHOP_BYTES, In-Err}
+use Rattle.sheet.proofs.put_printout.Goals.{Else-input-lt-SHOP_BYTES}
 
 -- ---- what cannot be opened
 
@@ -31,22 +26,15 @@ returns-then-input-lt-SHOP_BYTES c =
       few = omega (arith, w.count, refused_short refusal.cut_short (omega arith));
     }
 
--- the shop is bad, and its refusal is told
-refused_shop : (c : In-Err) → let bytes = c.args.input.now in
-    (bad_shop (get_or bytes 0 0) (get_or bytes 1 0) ≡ true) × (refusal.number_of c.in-Err.w ≡ refusal.bad_shop)
-refused_shop c = fresh_bad _ _ _ c.in-Err.ensures.0.refusal (refuses c.in-Err.w)
+pub put_refused-requires-then-bad_shop : goal.put_refused-requires-then-bad_shop
+put_refused-requires-then-bad_shop c =
+    record { fits = rw c.from-then-bad_shop.ensures (omega (arith, c.requires.most_printed_in_bounds, refused_short refusal.bad_shop (omega arith))) }
 
-pub put_refused-requires-in-Err : goal.put_refused-requires-in-Err
-put_refused-requires-in-Err c =
-    let told = (refused_shop (goal.at.put_refused-requires-in-Err c).In-Err).1 in
-    record { fits = rw (c.from-in-Err.ensures, told) (omega (arith, c.requires.most_printed_in_bounds, refused_short refusal.bad_shop (omega arith))) }
-
-pub returns-in-Err : goal.returns-in-Err
-returns-in-Err c =
-    let bad = refused_shop (goal.at.returns-in-Err c).In-Err in
-    let w = rw (c.from-in-Err.ensures, bad.1) at c.put_refused-in-Err.ensures in
+pub returns-then-bad_shop : goal.returns-then-bad_shop
+returns-then-bad_shop c =
+    let w = rw c.from-then-bad_shop.ensures at c.put_refused-then-bad_shop.ensures in
     record {
-      written = rw (printout_bad _ c.if-input-lt-SHOP_BYTES.false bad.0) w;
+      written = rw (printout_bad _ c.if-input-lt-SHOP_BYTES.false (sym c.bad_shop.ensures ∙ c.if-bad_shop.true)) w;
       few = omega (arith, w.count, refused_short refusal.bad_shop (omega arith));
     }
 
@@ -69,7 +57,7 @@ put_shift-requires c =
     let w = c.put_board-at.ensures in
     let fits = board_fits (goal.at.put_shift-requires c).Else-input-lt-SHOP_BYTES in
     record {
-      inv = c.fresh.ensures.0.invariant;
+      inv = c.fresh-opened.ensures.0.invariant;
       shop_bytes_in_bounds = c.if-input-lt-SHOP_BYTES.false;
       input_len_bound = c.requires.input_len_bound;
       most_shift_bytes_in_bounds = omega (arith, c.requires.most_printed_in_bounds, w.count, mid_long c.put_board-at.result c.put_board-at.new.out, c.put_board-at.auto.out, fits);
@@ -77,11 +65,11 @@ put_shift-requires c =
 
 pub returns : goal.returns
 returns c =
-    let z = c.put_shift.ensures in
+    let z = c.put_shift.ensures.0 in
     let w = c.put_board-at.ensures in
-    let f = c.fresh.ensures.0 in
+    let f = c.fresh-opened.ensures.0 in
     let long = c.if-input-lt-SHOP_BYTES.false in
-    let good = fresh_good _ _ (sym (ap outcome_number c.in_default.is) ∙ f.refusal) in
+    let good = sym c.bad_shop.ensures ∙ c.if-bad_shop.false in
     record {
       written = printed _ long good f.state w z.written;
       few = omega (arith, w.count, board_fits (goal.at.returns c).Else-input-lt-SHOP_BYTES, z.few);
