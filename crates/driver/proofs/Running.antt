@@ -1,6 +1,6 @@
 -- The loop over the calls: what is left to do from here is the whole run.
 use Prim.Native.Nat.{ℕ, suc, ◌+◌, ◌-◌, ◌*◌, ◌≤◌, ◌<◌}
-use mathlib.Core.Path.{◌≡◌, refl, sym, ◌∙◌}
+use mathlib.Core.Path.{◌≡◌, refl, sym, ap, ◌∙◌}
 use mathlib.Core.List.{List, ◌∷◌, ◌++◌}
 use native.Mathlib.Nat.{sub-zero}
 use native.Mathlib.Omega.{arith}
@@ -8,12 +8,15 @@ use lib.ListN.{length}
 use borrow.Rule.Slice.PartMut.{mid_of, put_mid}
 use Rattle.text.specs.Written.{Room}
 use Rattle.text.proofs.WrittenLaws.{Left, left_start, left_fits, left_put, left_end, written_sets}
+use Rattle.creek.specs.Book.{invoke, deliver, commit, undo, execute}
 use Rattle.creek.specs.Calls.{Replica}
 use Rattle.replica.specs.State.{State}
+use Rattle.replica.specs.declared.Panel.{Panel}
+use Rattle.replica.specs.Memory.{SameSpare}
 use Rattle.replica.specs.internal.Model.{Inv, model}
-use Rattle.encoding.specs.Encoding.{calls_at, call_size, Entry, entry_at, entries_from, call_count, entries_of}
+use Rattle.encoding.specs.Encoding.{calls_at, call_size, Entry, one, all_due, entry_at, entries_from, call_count, entries_of}
 use Rattle.encoding.specs.Encoding.{after, answer_to, answer_bytes, answer_size, answers_bytes}
-use Rattle.encoding.specs.internal.Running.{run_entries, EntryPut, RanAll}
+use Rattle.encoding.specs.internal.Running.{run_entries, EntryPut, entry_changes, RanAll}
 use Rattle.encoding.proofs.CallLaws.{put_as}
 use Rattle.encoding.proofs.SizeLaws.{length-answer}
 use Rattle.encoding.proofs.Expanded.{run_expanded}
@@ -105,3 +108,12 @@ run_end p s count out out₁ q at behind i room h now =
       answers = written_sets room (left_end (rw none at now.answers));
       invariant = now.invariant;
     }
+
+-- a call of a list leaves the spare bytes
+pub spare_stays : (x : Entry) (p q : Panel) → q ≡ entry_changes x p q → SameSpare p q
+spare_stays (one (invoke i)) p q others = ap (λ (r : Panel). r.spare) others
+spare_stays (one (deliver x)) p q others = ap (λ (r : Panel). r.spare) others
+spare_stays (one (commit n)) p q others = ap (λ (r : Panel). r.spare) others
+spare_stays (one undo) p q others = ap (λ (r : Panel). r.spare) others
+spare_stays (one execute) p q others = ap (λ (r : Panel). r.spare) others
+spare_stays all_due p q others = ap (λ (r : Panel). r.spare) others

@@ -6,7 +6,7 @@
 
 ghost use Rattle.std.specs.Prelude.{◌≡◌};
 ghost use Rattle.text.specs.Written.{Room};
-ghost use Rattle.replica.specs.Memory.{memory};
+ghost use Rattle.replica.specs.Memory.{memory, SameSpare};
 ghost use Rattle.replica.specs.internal.Model.{Inv, model};
 ghost use Rattle.encoding.specs.Encoding.{call_count, entries_of, answers_bytes};
 ghost use Rattle.encoding.specs.internal.Running.{RanAll};
@@ -51,7 +51,7 @@ fn run_all(p: &mut Panel, s: &[u8], count: usize, out: &mut [u8])
     requires inv { Inv (memory p.old) }
     requires count_value { count ≡ call_count s.now }
     requires room { Room out.old (answers_bytes (model (memory p.old)) (entries_of s.now)) }
-    ensures { RanAll (memory p.old) s.now out.old out.new (memory p.new) }
+    ensures { RanAll (memory p.old) s.now out.old out.new (memory p.new) × SameSpare p.old p.new }
 {
     let mut behind = 0;
     for i in 0..count {

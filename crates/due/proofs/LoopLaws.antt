@@ -3,7 +3,7 @@ use Prim.Native.Nat.{ℕ, ◌+◌, ◌-◌, ◌≤◌, ◌<◌}
 use native.Mathlib.Omega.{arith}
 use mathlib.Core.Path.{◌≡◌, refl, sym, ap, subst, ◌∙◌}
 use mathlib.Core.List.{List}
-use lib.ListN.{set}
+use lib.ListN.{set, get_or}
 use Rattle.counters.specs.declared.Counters.{Counters}
 use Rattle.counters.specs.Counted.{most_steps, undos_counted, executions_counted}
 use Rattle.creek.specs.Replies.{reply_in, no_mark, reply}
@@ -11,11 +11,13 @@ use Rattle.creek.specs.declared.Reply.{Reply}
 use Rattle.replica.specs.State.{State}
 use Rattle.replica.specs.declared.Panel.{Panel}
 use Rattle.replica.specs.Memory.{memory, SameSpare}
+use Rattle.replica.specs.Changes.{stepping_changes}
 use Rattle.replica.specs.internal.Model.{Inv}
 use Rattle.board.specs.Board.{rolled_back, TakenOff, ExecutedAt}
 use Rattle.due.specs.declared.DueSteps.{DueSteps}
 use Rattle.due.specs.Due.{most_replies, ran, RunDue}
 use Rattle.due.specs.internal.Job.{RolledBack, ExecutedAll}
+use Rattle.replica.proofs.ChangesLaws.{changed_by}
 use Rattle.replica.proofs.BoundLaws.{undos_fit, executions_fit}
 use Rattle.replica.proofs.States.{executed_state}
 use Rattle.steps.proofs.ExecuteLaws.{NextReply}
@@ -45,7 +47,7 @@ rolled_to q from left = record (memory q) { stacked = left; counters = undos_cou
 pub record RollingTo (p q : Panel) (left : ℕ) : Type 0 where
   pub low : p.executed ≤ left
   pub high : left ≤ p.stacked
-  pub spare : SameSpare p q
+  pub others : q ≡ stepping_changes p q
   pub rolling : Rolling (memory p) (rolled_to q p.stacked left)
 
 module _ {p q : Panel} {left : ℕ} (h : RollingTo p q left) where
@@ -56,7 +58,9 @@ module _ {p q : Panel} {left : ℕ} (h : RollingTo p q left) where
       record {
         low = omega arith;
         high = omega (arith, h.high);
-        spare = ap (λ (r : Panel). r.spare) off.panel ∙ h.spare;
+        others =
+            changed_by (stepping_changes p)
+            (off.panel ∙ ap (λ (r : Panel). record r { registers = rolled_back q (left - 1) }) h.others) refl;
         rolling =
             subst (λ (r : State). Rolling (memory p) r) (sym (ap after off.panel))
             (rolling_on (memory p) (rolled_to q p.stacked left) h.rolling (omega (arith, h.rolling.executed)) (rolled_back q (left - 1))
@@ -86,7 +90,7 @@ pub record ExecutingTo (p q : Panel) (replies : List Reply) (n at : ℕ) : Type 
   pub low : p.executed ≤ at
   pub high : at ≤ p.ordered
   pub ordered : q.ordered ≡ p.ordered
-  pub spare : SameSpare p q
+  pub others : q ≡ stepping_changes p q
   pub executing : Executing (memory p) (executed_to q p.executed at) replies n
 
 module _ {p q : Panel} {replies : List Reply} {n at : ℕ} (h : ExecutingTo p q replies n at) where
@@ -123,11 +127,19 @@ module _ {p q : Panel} {replies : List Reply} {n at : ℕ} (h : ExecutingTo p q 
           → ExecutingTo p z replies n (at + 1)
       moved replies n e =
           let after : Panel → State = λ (y : Panel). executed_to y p.executed (at + 1) in
+          let executed_on : Panel → Panel =
+          λ (y : Panel). record y {
+            awaiting = z.awaiting;
+            stack = set q.stack at (get_or q.order at 0);
+            registers = z.registers;
+            saved = set q.saved at next.word;
+            responses = set q.responses at r.response;
+          } in
           record {
             low = omega (arith, h.low);
             high = omega arith;
             ordered = ap (λ (y : Panel). y.ordered) next.panel ∙ h.ordered;
-            spare = ap (λ (y : Panel). y.spare) next.panel ∙ h.spare;
+            others = changed_by (stepping_changes p) (next.panel ∙ ap executed_on h.others) refl;
             executing = subst (λ (y : State). Executing (memory p) y replies n) (sym (ap after next.panel)) e;
           }
 
@@ -167,16 +179,24 @@ module _ {p q : Panel} {replies : List Reply} {n at : ℕ} (h : ExecutingTo p q 
     pub execute-end : (undos : ℕ) (counters : Counters) → counters ≡ executions_counted q.counters (p.ordered - p.executed)
         → ExecutedAll (memory p) undos
         (ran (record { undos = undos; executions = p.ordered - p.executed; count = n; replies = replies })
-        (memory (record q { executed = p.ordered; stacked = p.ordered; counters = counters }))) × SameSpare p q
-    execute-end undos counters counted = (rw counted (ended undos), h.spare)
+        (memory (record q { executed = p.ordered; stacked = p.ordered; counters = counters })))
+        × (record q { executed = p.ordered; stacked = p.ordered; counters = counters }
+        ≡ stepping_changes p (record q { executed = p.ordered; stacked = p.ordered; counters = counters }))
+    execute-end undos counters counted = (
+      rw counted (ended undos),
+      ap (λ (r : Panel). record r { executed = p.ordered; stacked = p.ordered; counters = counters }) h.others,
+    )
 
 -- ---- both
 
-pub all_due_is : {p q z : Panel} {undos : ℕ} {r : DueSteps} → Inv (memory p) → RolledBack (memory p) (memory q) × SameSpare p q
-    → undos ≡ p.stacked - p.executed → ExecutedAll (memory q) undos (ran r (memory z)) × SameSpare q z
-    → RunDue (memory p) (ran r (memory z)) × SameSpare p z
-all_due_is {p} {q} {z} {r = r} inv back is all = (
-  run_through (memory p) (memory q) (ran r (memory z)) inv back.0
-      (subst (λ (n : ℕ). ExecutedAll (memory q) n (ran r (memory z))) is all.0),
-  all.1 ∙ back.1,
-)
+pub all_due_is : {p q z : Panel} {undos : ℕ} {r : DueSteps} → Inv (memory p)
+    → RolledBack (memory p) (memory q) × (q ≡ stepping_changes p q) → undos ≡ p.stacked - p.executed
+    → ExecutedAll (memory q) undos (ran r (memory z)) × (z ≡ stepping_changes q z)
+    → RunDue (memory p) (ran r (memory z)) × SameSpare p z × (z ≡ stepping_changes p z)
+all_due_is {p} {q} {z} {r = r} inv back is all =
+    let others : z ≡ stepping_changes p z = all.1 ∙ ap (λ (y : Panel). stepping_changes y z) back.1 in (
+      run_through (memory p) (memory q) (ran r (memory z)) inv back.0
+          (subst (λ (n : ℕ). ExecutedAll (memory q) n (ran r (memory z))) is all.0),
+      ap (λ (y : Panel). y.spare) others,
+      others,
+    )

@@ -2,6 +2,7 @@
 #![tactic(auto)]
 
 ghost use Rattle.std.specs.Prelude.{◌≡◌, ◌-◌};
+ghost use Rattle.replica.specs.Changes.{stepping_changes};
 ghost use Rattle.replica.specs.Memory.{memory, SameSpare};
 ghost use Rattle.replica.specs.internal.Model.{Inv};
 ghost use Rattle.due.specs.Due.{no_reply, ran, RunDue};
@@ -26,7 +27,7 @@ pub struct DueSteps {
 // Every due step until the panel is idle, with the replies that fall due on the way.
 pub fn run_due(p: &mut Panel) -> DueSteps
     requires { Inv (memory p.old) }
-    ensures { RunDue (memory p.old) (ran result (memory p.new)) × SameSpare p.old p.new }
+    ensures { RunDue (memory p.old) (ran result (memory p.new)) × SameSpare p.old p.new × (p.new ≡ stepping_changes p.old p.new) }
 {
     let undos = roll_back_all(p);
     execute_all(p, undos)
@@ -35,7 +36,7 @@ pub fn run_due(p: &mut Panel) -> DueSteps
 // Undoes what is to be rolled back; how many undos these were.
 fn roll_back_all(p: &mut Panel) -> u32
     requires { Inv (memory p.old) }
-    ensures back { RolledBack (memory p.old) (memory p.new) × SameSpare p.old p.new }
+    ensures back { RolledBack (memory p.old) (memory p.new) × (p.new ≡ stepping_changes p.old p.new) }
     ensures undos { result ≡ p.old.stacked - p.old.executed }
 {
     let executed = p.executed;
@@ -53,7 +54,7 @@ fn roll_back_all(p: &mut Panel) -> u32
 fn execute_all(p: &mut Panel, undos: u32) -> DueSteps
     requires inv { Inv (memory p.old) }
     requires nothing_to_undo { p.old.executed ≡ p.old.stacked }
-    ensures { ExecutedAll (memory p.old) undos (ran result (memory p.new)) × SameSpare p.old p.new }
+    ensures { ExecutedAll (memory p.old) undos (ran result (memory p.new)) × (p.new ≡ stepping_changes p.old p.new) }
 {
     let first = p.executed;
     let ordered = p.ordered;

@@ -13,6 +13,7 @@ use Rattle.lists.proofs.BoolLaws.{true_not_false}
 use Rattle.creek.specs.declared.Answer.{Answer}
 use Rattle.creek.specs.Book.{Call, invoke, undo, execute}
 use Rattle.replica.specs.State.{State, Called}
+use Rattle.replica.specs.declared.Panel.{Panel}
 use Rattle.replica.specs.Promises.{Kept}
 use Rattle.wire.specs.Message.{BusMessage}
 use Rattle.intake.specs.Intake.{call_of}
@@ -20,7 +21,7 @@ use Rattle.encoding.specs.declared.calls.Step.{Step}
 use Rattle.encoding.specs.declared.calls.Step.TheVariants.{Undo, Execute, AllDue}
 use Rattle.encoding.specs.Encoding.{invoke_tag, undo_tag, execute_tag, all_due_tag, message_at, message_call, call_at}
 use Rattle.encoding.specs.Encoding.{Entry, one, all_due, entry_at, after, answer_to, answer_bytes, invocation_of, request_in}
-use Rattle.encoding.specs.internal.Running.{step_with, step_entry, Done, EntryPut}
+use Rattle.encoding.specs.internal.Running.{step_with, step_entry, Done, EntryPut, entry_changes}
 
 -- one call is carried out as it is kept
 pub done-one : (p : State) (c : Call) (r : Called) → Kept p c r → Done p (one c) r
@@ -90,3 +91,7 @@ put_as {p} {q} {out = out} {out' = out'} {n = n} e d = subst (λ (x : Entry). En
 pub put-kept : {p q : State} {c : Call} {a : Answer} {out out' : List ℕ} {n : ℕ} → Kept p c (record { answer = a; state = q })
     → Written out (answer_bytes a) out' n → EntryPut p (one c) out q out' n
 put-kept {p} {q} k w = put-done (done-one p _ _ k) w
+
+-- what the same entry under another name changes
+pub changed_as : {x y : Entry} → x ≡ y → (p q : Panel) → q ≡ entry_changes y p q → q ≡ entry_changes x p q
+changed_as e p q others = subst (λ (x : Entry). q ≡ entry_changes x p q) (sym e) others

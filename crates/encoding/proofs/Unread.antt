@@ -13,8 +13,11 @@ use Rattle.creek.specs.Plan.{deliver_refusal}
 use Rattle.creek.specs.Replies.{answer_of, named_by_refusal, refused_with}
 use Rattle.creek.specs.Calls.{Replica, step, answer}
 use Rattle.replica.specs.State.{State}
+use Rattle.replica.specs.declared.Panel.{Panel}
+use Rattle.replica.specs.Changes.{entering_changes, call_changes}
 use Rattle.replica.specs.Promises.{Kept}
 use Rattle.replica.specs.internal.Model.{model}
+use Rattle.replica.proofs.ChangesLaws.{changed_by}
 use Rattle.wire.specs.Layout.{least_message}
 use Rattle.request.specs.Request.{no_request}
 use Rattle.wire.specs.declared.Message.TheVariants.{Request as request}
@@ -22,7 +25,7 @@ use Rattle.wire.specs.Message.{BusMessage}
 use Rattle.wire.specs.Reader.{Outcome, message, end, refused, read_at}
 use Rattle.wire.proofs.RoundTrip.{taken_least}
 use Rattle.intake.specs.declared.Receipt.{Receipt}
-use Rattle.intake.specs.Intake.{call_of, answer_to, received, is_taken_in, Received}
+use Rattle.intake.specs.Intake.{call_of, answer_to, received, is_taken_in, receiving_changes, Received}
 use Rattle.encoding.specs.Encoding.{message_at, message_of}
 use Rattle.encoding.specs.internal.Running.{receipt_answer}
 
@@ -73,3 +76,15 @@ pub received-kept : {p q : State} {r : Receipt} (s : List ℕ) (at : ℕ) → Re
     → Kept p (call_of (message_at s at)) (record { answer = receipt_answer r; state = q })
 unfolding message_at
 received-kept {p} {q} {r} s at got = kept_by p q (read_at s at) r (taken_least s at) got
+
+changed_by_outcome : (o : Outcome) (p q : Panel) → q ≡ receiving_changes o p q → q ≡ call_changes (call_of (message_of o)) p q
+unfolding call_of
+changed_by_outcome (message m n) p q others = others
+changed_by_outcome end p q others = changed_by (entering_changes p) others refl
+changed_by_outcome (refused w) p q others = changed_by (entering_changes p) others refl
+
+-- and changes of a panel what that call may
+pub received_changes : (p q : Panel) (s : List ℕ) (at : ℕ) → q ≡ receiving_changes (read_at s at) p q
+    → q ≡ call_changes (call_of (message_at s at)) p q
+unfolding message_at
+received_changes p q s at others = changed_by_outcome (read_at s at) p q others

@@ -14,6 +14,7 @@ use Rattle.counters.specs.Counted.{counted}
 use Rattle.creek.specs.internal.Sound.{Sound, most_requests}
 use Rattle.replica.specs.State.{State}
 use Rattle.replica.specs.declared.Panel.{Panel}
+use Rattle.replica.specs.Changes.{entering_changes}
 use Rattle.replica.specs.Memory.{memory, SameSpare}
 use Rattle.replica.specs.internal.Model.{plan_of, book_of, model, Inv}
 
@@ -86,3 +87,4 @@ pub record EnterKept (p : Panel) (x : Request) (q : Panel) : Type 0 where
       → Entered (memory p) x (set_of awaiting) events clock (owning awaiting events clock (memory q))
   pub awaiting : q.awaiting ≡ p.awaiting
   pub spare : SameSpare p q
+  pub others : q ≡ entering_changes p q

@@ -2,12 +2,12 @@
 // bytes the answer has.
 #![tactic(auto)]
 
-ghost use Rattle.std.specs.Prelude.{◌+◌, ◌≤◌, ◌<◌, length, get_or};
+ghost use Rattle.std.specs.Prelude.{◌≡◌, ◌+◌, ◌≤◌, ◌<◌, length, get_or};
 ghost use Rattle.creek.specs.Book.{invoke};
 ghost use Rattle.replica.specs.Memory.{memory};
 ghost use Rattle.replica.specs.internal.Model.{Inv};
 ghost use Rattle.encoding.specs.Encoding.{one, entry_at, message_at, message_call, request_in, invocation_of, answer_size};
-ghost use Rattle.encoding.specs.internal.Running.{EntryPut, step_entry};
+ghost use Rattle.encoding.specs.internal.Running.{EntryPut, entry_changes, step_entry};
 
 use encoding::{Step, calls};
 use replica::Panel;
@@ -17,7 +17,8 @@ pub fn carry_out(p: &mut Panel, s: &[u8], at: usize, out: &mut [u8]) -> usize
     requires inv { Inv (memory p.old) }
     requires at_in_bounds { at < length s.now }
     requires answer_size_in_bounds { answer_size ≤ length out.old }
-    ensures { EntryPut (memory p.old) (entry_at s.now at) out.old (memory p.new) out.new result }
+    ensures { EntryPut (memory p.old) (entry_at s.now at) out.old (memory p.new) out.new result
+        × (p.new ≡ entry_changes (entry_at s.now at) p.old p.new) }
 {
     match Step::with_tag(s[at]) {
         Some(step) => take_step(p, step, out),
@@ -29,7 +30,8 @@ pub fn carry_out(p: &mut Panel, s: &[u8], at: usize, out: &mut [u8]) -> usize
 fn take_step(p: &mut Panel, step: Step, out: &mut [u8]) -> usize
     requires inv { Inv (memory p.old) }
     requires answer_size_in_bounds { answer_size ≤ length out.old }
-    ensures { EntryPut (memory p.old) (step_entry step) out.old (memory p.new) out.new result }
+    ensures { EntryPut (memory p.old) (step_entry step) out.old (memory p.new) out.new result
+        × (p.new ≡ entry_changes (step_entry step) p.old p.new) }
 {
     match step {
         Step::Undo => encoding::put_reply(out, steps::undo(p)),
@@ -47,7 +49,8 @@ fn bring(p: &mut Panel, s: &[u8], at: usize, out: &mut [u8]) -> usize
     requires at_in_bounds { at < length s.now }
     requires answer_size_in_bounds { answer_size ≤ length out.old }
     ensures { EntryPut (memory p.old) (one (message_call (get_or s.now at 0) (message_at s.now (at + 1))))
-        out.old (memory p.new) out.new result }
+        out.old (memory p.new) out.new result
+        × (p.new ≡ entry_changes (one (message_call (get_or s.now at 0) (message_at s.now (at + 1)))) p.old p.new) }
 {
     let message_at = at + 1;
     if s[at] == calls::INVOKE {
@@ -62,7 +65,8 @@ fn make(p: &mut Panel, s: &[u8], at: usize, out: &mut [u8]) -> usize
     requires inv { Inv (memory p.old) }
     requires answer_size_in_bounds { answer_size ≤ length out.old }
     ensures { EntryPut (memory p.old) (one (invoke (invocation_of (request_in (message_at s.now at)))))
-        out.old (memory p.new) out.new result }
+        out.old (memory p.new) out.new result
+        × (p.new ≡ entry_changes (one (invoke (invocation_of (request_in (message_at s.now at))))) p.old p.new) }
 {
     let asked = encoding::invocation_at(s, at);
     let made = invoking::invoke(p, asked);

@@ -6,12 +6,14 @@ use Rattle.request.specs.Refusal.{accepted}
 use Rattle.creek.specs.declared.Reply.{Reply}
 use Rattle.creek.specs.Replies.{reply_answer}
 use Rattle.replica.specs.State.{State}
+use Rattle.replica.specs.declared.Panel.{Panel}
+use Rattle.replica.specs.Changes.{call_changes}
 use Rattle.replica.specs.Promises.{Kept}
 use Rattle.replica.specs.internal.Model.{Inv}
 use Rattle.wire.specs.Layout.{kind_number}
 use Rattle.wire.specs.Message.{BusMessage, kind_of, number_in}
 use Rattle.wire.specs.Reader.{Outcome, message, end, refused, taken_of}
-use Rattle.intake.specs.Intake.{call_of, answer_to, number_told, kind_told, received, is_taken_in, nothing, Received}
+use Rattle.intake.specs.Intake.{call_of, answer_to, number_told, kind_told, received, is_taken_in, receiving_changes, nothing, Received}
 
 module _ {p : State} {o : Outcome} where
   pub receive-message : {q : State} {reply : Reply} {m : BusMessage} {n : ℕ} {number : Number} {kind : ℕ} → o ≡ message m n
@@ -52,3 +54,15 @@ module _ {p : State} {o : Outcome} where
     unchanged = λ _. refl;
     invariant = inv;
   }
+
+-- what receiving does not change of a panel
+module _ {o : Outcome} (p : Panel) where
+  pub changed-message : {m : BusMessage} {n : ℕ} → o ≡ message m n → (q : Panel) → q ≡ call_changes (call_of m) p q
+      → q ≡ receiving_changes o p q
+  changed-message e q others = rw e others
+
+  pub changed-end : o ≡ end → p ≡ receiving_changes o p p
+  changed-end e = rw e
+
+  pub changed-refused : (w : ℕ) → o ≡ refused w → p ≡ receiving_changes o p p
+  changed-refused w e = rw e

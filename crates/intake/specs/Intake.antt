@@ -7,6 +7,8 @@ use Rattle.creek.specs.Book.{Call, Book, deliver, commit, is_accepted}
 use Rattle.creek.specs.Calls.{Replica, step, answer}
 use Rattle.creek.specs.Replies.{done, refused_with, reply_answer, reply_in}
 use Rattle.replica.specs.State.{State}
+use Rattle.replica.specs.declared.Panel.{Panel}
+use Rattle.replica.specs.Changes.{call_changes}
 use Rattle.replica.specs.internal.Model.{model, book_of, Inv}
 use Rattle.wire.specs.Layout.{kind_number}
 use Rattle.wire.specs.declared.Message.TheVariants.{Request as request, Settlement as settlement}
@@ -50,6 +52,12 @@ unfoldable pub is_taken_in : Book → Outcome → Bool
 is_taken_in b (message m n) = is_accepted b (call_of m)
 is_taken_in b end = false
 is_taken_in b (refused w) = false
+
+-- what receiving it may change of a panel: p with what the call may change as q has it; what cannot be read changes nothing
+abbrev pub receiving_changes : Outcome → Panel → Panel → Panel
+receiving_changes (message m n) p q = call_changes (call_of m) p q
+receiving_changes end p q = p
+receiving_changes (refused w) p q = p
 
 -- p received it, and q is the state then
 pub record Received (p : State) (o : Outcome) (r : Receipt) (q : State) : Type 0 where

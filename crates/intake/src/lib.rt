@@ -10,7 +10,7 @@ ghost use Rattle.replica.specs.Memory.{memory, SameSpare, Done};
 ghost use Rattle.replica.specs.internal.Model.{Inv};
 ghost use Rattle.wire.specs.Reader.{read_at};
 ghost use Rattle.wire.specs.Head.{GoodHead, message_at};
-ghost use Rattle.intake.specs.Intake.{call_of, nothing, Received};
+ghost use Rattle.intake.specs.Intake.{call_of, nothing, receiving_changes, Received};
 
 use creek::Reply;
 use fields::reading;
@@ -34,7 +34,7 @@ pub struct Receipt {
 pub fn receive(p: &mut Panel, bytes: &[u8], at: usize) -> Receipt
     requires { Inv (memory p.old) }
     ensures { Received (memory p.old) (read_at bytes.now at) result (memory p.new)
-        × SameSpare p.old p.new }
+        × SameSpare p.old p.new × (p.new ≡ receiving_changes (read_at bytes.now at) p.old p.new) }
 {
     match wire::head_at(bytes, at) {
         Ok(Some(head)) => {

@@ -37,6 +37,8 @@ use Rattle.creek.specs.Calls.{accept}
 use Rattle.creek.proofs.AcceptanceLaws.{passed, made_new}
 use Rattle.creek.proofs.LookupLaws.{last_event-made, last_clock-made}
 use Rattle.replica.specs.State.{State}
+use Rattle.replica.specs.declared.Panel.{Panel}
+use Rattle.replica.specs.Changes.{entering_changes, making_changes}
 use Rattle.store.specs.Requests.{request_at}
 use Rattle.replica.specs.Promises.{Kept}
 use Rattle.replica.specs.internal.Model.{order_slots, plan_of, book_of, model, Inv}
@@ -242,3 +244,9 @@ module _ (p : State) (i : Invocation) (inv : Inv p) (w : ℕ) (told : InvokeRefu
           let made-entered = rw (waits, is ∙ request-made) at e in
           kept-accepted p q (invoke i) taken a inv (answers ∙ ap (λ (y : Request). spread y) (is ∙ request-made)) (made-model q made-entered)
           (made-entered.invariant own-made)
+
+-- a request that entered is made where awaiting, event and clock follow: nothing else is changed
+pub making : (p : Panel) {q : Panel} → q ≡ entering_changes p q → (awaiting : List ℕ) (events clock : ℕ)
+    → record q { awaiting = awaiting; events = events; clock = clock }
+    ≡ making_changes p (record q { awaiting = awaiting; events = events; clock = clock })
+making p is awaiting events clock = ap (λ (r : Panel). record r { awaiting = awaiting; events = events; clock = clock }) is

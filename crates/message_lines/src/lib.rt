@@ -3,7 +3,7 @@
 
 ghost use Rattle.std.specs.Prelude.{◌+◌, ◌*◌, ◌≤◌, length};
 ghost use Rattle.report.specs.Sizes.{most_message_bytes};
-ghost use Rattle.replica.specs.Memory.{memory};
+ghost use Rattle.replica.specs.Memory.{memory, SameSpare};
 ghost use Rattle.replica.specs.internal.Model.{Inv};
 ghost use Rattle.printed.specs.Printout.{shop_bytes, most_messages, most_input};
 ghost use Rattle.message_lines.specs.LinesPut.{LinePut, Idle, AllPut};
@@ -35,7 +35,7 @@ fn put_line(out: &mut [u8], place: u64, receipt: Receipt, undone: u32) -> usize
 // Every due step until the panel is idle; returns how many undos they were.
 fn idle(p: &mut Panel) -> u32
     requires { Inv (memory p.old) }
-    ensures { Idle (memory p.old) (memory p.new) result }
+    ensures { Idle (memory p.old) (memory p.new) result × SameSpare p.old p.new }
 {
     let steps = due::run_due(p);
     steps.undos
@@ -48,7 +48,7 @@ pub fn put_messages(out: &mut [u8], input: &[u8], p: &mut Panel) -> usize
     requires shop_bytes_in_bounds { shop_bytes ≤ length input.now }
     requires input_len_bound { length input.now ≤ most_input }
     requires most_message_bytes_in_bounds { most_messages * most_message_bytes ≤ length out.old }
-    ensures { AllPut (memory p.old) input.now out.old (memory p.new) out.new result }
+    ensures { AllPut (memory p.old) input.now out.old (memory p.new) out.new result × SameSpare p.old p.new }
 {
     let mut at = SHOP_BYTES;
     let mut behind = 0;

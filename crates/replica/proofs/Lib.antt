@@ -8,3 +8,4 @@ pub mod LogLaws
 pub mod FreshLaws
 pub mod BoundLaws
 pub mod ShowingLaws
+pub mod ChangesLaws

@@ -11,6 +11,7 @@ use Rattle.replica.specs.State.{State, Opened}
 use Rattle.replica.specs.Promises.{Kept}
 use Rattle.replica.specs.declared.Shop.{Shop}
 use Rattle.replica.specs.declared.Panel.{Panel}
+use Rattle.replica.specs.Changes.{call_changes}
 
 abbrev pub memory : Panel → State
 memory p = record {
@@ -54,6 +55,8 @@ opened_by outcome p = record { refusal = outcome_number outcome; state = memory 
 pub record Done (p : Panel) (c : Call) (a : Answer) (q : Panel) : Type 0 where
   pub kept : Kept (memory p) c (record { answer = a; state = memory q })
   pub spare : SameSpare p q
+  -- what the call does not change is as it was
+  pub others : q ≡ call_changes c p q
 
 -- the shop that is opened where that one, bad or not, is asked for
 abbrev pub shop_opened : Bool → ℕ → PanelNo → Shop

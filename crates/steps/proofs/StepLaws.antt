@@ -14,9 +14,11 @@ use Rattle.creek.specs.Replies.{no_mark, refused_with, reply, reply_answer, repl
 use Rattle.replica.specs.State.{State}
 use Rattle.replica.specs.declared.Panel.{Panel}
 use Rattle.replica.specs.Memory.{memory, Done}
+use Rattle.replica.specs.Changes.{undoing_changes, stepping_changes}
 use Rattle.replica.specs.Promises.{Kept}
 use Rattle.replica.specs.internal.Model.{book_of, Inv}
 use Rattle.board.specs.Board.{TopAsks, rolled_back, TakenOff, NextAsks, ExecutedAt}
+use Rattle.replica.proofs.ChangesLaws.{changed_by}
 use Rattle.replica.proofs.BoundLaws.{undos_fit, executions_fit}
 use Rattle.replica.proofs.KeptLaws.{kept-refused}
 use Rattle.replica.proofs.ModelLaws.{top_slot_lem, next_slot_lem}
@@ -35,6 +37,7 @@ module _ (p : Panel) (inv : Inv (memory p)) where
         kept-refused (memory p) undo refused.nothing_to_undo _ inv (undo-refused (memory p) inv idle) (λ e. omega arith)
         (ap reply_answer said);
     spare = refl;
+    others = refl;
   }
 
   module _ (due : p.executed < p.stacked) where
@@ -63,6 +66,9 @@ module _ (p : Panel) (inv : Inv (memory p)) where
                 (counted ∙ ap (λ (r : Panel). undos_counted r.counters 1) off.panel)
                 (ap (λ (m : Number). reply m 0 no_mark) (is ∙ ap number_of off.slot)));
             spare = ap (λ (r : Panel). r.spare) off.panel;
+            others =
+                changed_by (undoing_changes p)
+                (ap (λ (r : Panel). record r { stacked = p.stacked - 1; counters = counters }) off.panel) refl;
           }
 
 -- ---- execute
@@ -72,7 +78,7 @@ module _ (p : Panel) (inv : Inv (memory p)) where
       → (r : Reply) → r ≡ reply_in (refused_with word no_number) → Done p execute (reply_answer r) p
   unfolding named_by_refusal
   refused_by_lem word by refuses r said =
-      record { kept = kept-refused (memory p) execute word _ inv by refuses (ap reply_answer said); spare = refl }
+      record { kept = kept-refused (memory p) execute word _ inv by refuses (ap reply_answer said); spare = refl; others = refl }
 
   pub execute_first_undo : (p.executed ≡ p.stacked → ⊥) → (r : Reply) → r ≡ reply_in (refused_with refused.undo_first no_number)
       → Done p execute (reply_answer r) p
@@ -115,4 +121,7 @@ module _ (p : Panel) (inv : Inv (memory p)) where
                 (sym (ap after next.panel))
                 (rw next.refusal (kept counters (counted ∙ ap (λ (z : Panel). executions_counted z.counters 1) next.panel)));
             spare = ap (λ (z : Panel). z.spare) next.panel;
+            others =
+                changed_by (stepping_changes p)
+                (ap (λ (z : Panel). record z { executed = p.executed + 1; stacked = p.executed + 1; counters = counters }) next.panel) refl;
           }

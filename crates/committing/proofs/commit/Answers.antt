@@ -13,4 +13,5 @@ pub returns-in-Err : goal.returns-in-Err
 returns-in-Err c = record {
   kept = kept_early {p = memory c.args.p.now} c.requires c.in-Err.ensures (refuses c.in-Err.refusal) (ap reply_answer c.told.ensures);
   spare = refl;
+  others = refl;
 }

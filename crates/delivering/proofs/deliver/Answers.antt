@@ -56,6 +56,7 @@ returns-in_err-judged c =
     rw (p.1, p.2) (record {
       kept = kept-judged _ c.args.x.now c.requires.inv _ _ c.in_err-judged.ensures (refuses _) refl;
       spare = refl;
+      others = refl;
     })
 
 pub held_refusal-requires : goal.held_refusal-requires
@@ -72,6 +73,7 @@ returns-then-member_at c =
           c.slot_of-slot.ensures y refl _ _
           c.held_refusal.ensures refl;
       spare = refl;
+      others = refl;
     }
 
 -- ---- heard
@@ -100,4 +102,5 @@ returns c =
     record {
       kept = kept_heard (before slot) _ c.requires.inv (judged_new slot) absent _ c.enter.ensures.heard _ refl;
       spare = c.enter.ensures.spare;
+      others = c.enter.ensures.others;
     }

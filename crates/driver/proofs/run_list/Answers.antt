@@ -18,4 +18,4 @@ returns c =
     let shop = c.shop_in-panels.ensures in
     let fresh = rw (shop.0, shop.1) at c.fresh-opened.ensures.0 in
     rw c.outcome_number.ensures
-    (ran_all _ _ (sym c.tight.ensures ∙ c.if-tight.false) _ fresh _ c.call_count-count.ensures _ _ c.run_all.ensures)
+    (ran_all _ _ (sym c.tight.ensures ∙ c.if-tight.false) _ fresh _ c.call_count-count.ensures _ _ c.run_all.ensures.0)

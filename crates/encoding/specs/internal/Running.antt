@@ -11,6 +11,8 @@ use Rattle.creek.specs.History.{run, due_calls}
 use Rattle.creek.specs.Showing.{owed_shown}
 use Rattle.creek.specs.Replies.{refused_with, reply_answer}
 use Rattle.replica.specs.State.{State, Called}
+use Rattle.replica.specs.declared.Panel.{Panel}
+use Rattle.replica.specs.Changes.{call_changes, stepping_changes}
 use Rattle.replica.specs.internal.Model.{Inv, model}
 use Rattle.intake.specs.declared.Receipt.{Receipt}
 use Rattle.encoding.specs.declared.calls.Step.{Step}
@@ -34,6 +36,11 @@ pub record EntryPut (p : State) (x : Entry) (out : List ℕ) (q : State) (out' :
   pub answer : Written out (answer_bytes (answer_to (model p) x)) out' n
   pub state : model q ≡ after (model p) x
   pub invariant : Inv q
+
+-- what carrying out the entry may change of a panel: p with that as q has it
+abbrev pub entry_changes : Entry → Panel → Panel → Panel
+entry_changes (one c) p q = call_changes c p q
+entry_changes all_due p q = stepping_changes p q
 
 -- the step of that tag, where it is one's
 abbrev pub step_with : ℕ → Option Step

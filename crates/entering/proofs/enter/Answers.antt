@@ -24,4 +24,5 @@ returns c =
       made = entered;
       awaiting = refl;
       spare = refl;
+      others = refl;
     }

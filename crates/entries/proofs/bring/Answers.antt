@@ -2,14 +2,18 @@
 use Prim.Native.Nat.{◌+◌}
 use mathlib.Core.Path.{ap}
 use Rattle.encoding.specs.Encoding.{one, message_at}
-use Rattle.encoding.proofs.CallLaws.{call-made, call_taken, put-kept, put_as}
-use Rattle.encoding.proofs.Unread.{received-kept}
+use Rattle.encoding.proofs.CallLaws.{call-made, call_taken, put-kept, put_as, changed_as}
+use Rattle.encoding.proofs.Unread.{received-kept, received_changes}
 use Rattle.entries.proofs.bring.Goals as goal
 
 pub returns-then-s-at-eq-INVOKE : goal.returns-then-s-at-eq-INVOKE
-returns-then-s-at-eq-INVOKE c = put_as (ap one (call-made _ (message_at c.args.s.now (c.args.at + 1)) c.if-s-at-eq-INVOKE.true)) c.make.ensures
+returns-then-s-at-eq-INVOKE c =
+    let is = ap one (call-made _ (message_at c.args.s.now (c.args.at + 1)) c.if-s-at-eq-INVOKE.true) in
+    (put_as is c.make.ensures.0, changed_as is _ _ c.make.ensures.1)
 
 pub returns : goal.returns
 returns c =
-    put_as (ap one (call_taken _ _ c.if-s-at-eq-INVOKE.false))
-    (put-kept (received-kept _ _ c.receive-receipt.ensures.0) c.put_receipt.ensures)
+    let is = ap one (call_taken _ _ c.if-s-at-eq-INVOKE.false) in (
+      put_as is (put-kept (received-kept _ _ c.receive-receipt.ensures.0) c.put_receipt.ensures),
+      changed_as is _ _ (received_changes _ _ c.args.s.now (c.args.at + 1) c.receive-receipt.ensures.2),
+    )

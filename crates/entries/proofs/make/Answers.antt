@@ -7,6 +7,8 @@ use Rattle.encoding.proofs.CallLaws.{put-kept, put_as}
 use Rattle.entries.proofs.make.Goals as goal
 
 pub returns : goal.returns
-returns c =
-    put_as (ap (λ (i : Invocation). one (invoke i)) (sym c.invocation_at-asked.ensures))
-    (put-kept c.invoke-made.ensures.kept (rw c.made_answer.ensures at c.put_answer.ensures))
+returns c = (
+  put_as (ap (λ (i : Invocation). one (invoke i)) (sym c.invocation_at-asked.ensures))
+      (put-kept c.invoke-made.ensures.kept (rw c.made_answer.ensures at c.put_answer.ensures)),
+  c.invoke-made.ensures.others,
+)

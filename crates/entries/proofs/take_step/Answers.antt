@@ -8,10 +8,12 @@ pub overflow_add-due : goal.overflow_add-due
 overflow_add-due c = omega (arith, steps-few _ _ c.requires.inv c.run_due-due.ensures.0)
 
 pub returns-in-Undo : goal.returns-in-Undo
-returns-in-Undo c = rw c.in-Undo.is (put-kept c.undo.ensures.kept c.put_reply.ensures)
+returns-in-Undo c = rw c.in-Undo.is (put-kept c.undo.ensures.kept c.put_reply.ensures, c.undo.ensures.others)
 
 pub returns-in-Execute : goal.returns-in-Execute
-returns-in-Execute c = rw c.in-Execute.is (put-kept c.execute.ensures.kept c.put_reply-in-Execute.ensures)
+returns-in-Execute c =
+    rw c.in-Execute.is (put-kept c.execute.ensures.kept c.put_reply-in-Execute.ensures, c.execute.ensures.others)
 
 pub returns-in-AllDue : goal.returns-in-AllDue
-returns-in-AllDue c = rw c.in-AllDue.is (put-done (done_all_due _ _ c.run_due-due.ensures.0) c.put_steps.ensures)
+returns-in-AllDue c =
+    rw c.in-AllDue.is (put-done (done_all_due _ _ c.run_due-due.ensures.0) c.put_steps.ensures, c.run_due-due.ensures.2)

@@ -15,7 +15,7 @@ use Rattle.request.proofs.RefusalLaws.{refuses}
 use Rattle.replica.specs.State.{State}
 use Rattle.replica.specs.Memory.{memory}
 use Rattle.entering.specs.Entering.{Enters}
-use Rattle.invoking.proofs.InvokingLaws.{as_request, kept_asked, events_left, next_place_asks, behind-next, asked_enters, kept-made}
+use Rattle.invoking.proofs.InvokingLaws.{as_request, kept_asked, events_left, next_place_asks, behind-next, asked_enters, kept-made, making}
 use Rattle.invoking.proofs.invoke.Goals as goal
 use Rattle.invoking.proofs.invoke.Goals.{After-context_for-context}
 
@@ -48,6 +48,7 @@ returns-in_err-invoke_refusal c =
     rw (p.1, p.2) (record {
       kept = kept_asked _ c.args.i c.requires _ c.in_err-invoke_refusal.ensures _ (refuses _) refl;
       spare = refl;
+      others = refl;
     })
 
 -- ---- made
@@ -87,4 +88,5 @@ returns c =
           ∙ ap (join (set_of c.args.p.now.awaiting)) (number_is context))
           (c.enter.ensures.made _ _ _) _ refl;
       spare = c.enter.ensures.spare;
+      others = making c.args.p.now c.enter.ensures.others _ _ _;
     }

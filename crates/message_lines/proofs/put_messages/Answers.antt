@@ -14,18 +14,18 @@ use Rattle.message_lines.proofs.put_messages.Goals as goal
 use Rattle.message_lines.proofs.put_messages.Goals.{After-receive-receipt, Else-taken-eq0, In-loop-at}
 
 pub loop-at-init : goal.loop-at-init
-loop-at-init c = put_start _ _ _ c.requires.inv c.requires.shop_bytes_in_bounds
+loop-at-init c = (put_start _ _ _ c.requires.inv c.requires.shop_bytes_in_bounds, refl)
 
 -- ---- the turn
 
 pub receive-receipt-requires : goal.receive-receipt-requires
-receive-receipt-requires c = c.loop-at.invariant.invariant
+receive-receipt-requires c = c.loop-at.invariant.0.invariant
 
 -- there is room for a line, and its place is one of few
 room : (c : In-loop-at) → let l = c.loop-at in
     (l.behind + most_message_bytes ≤ length l.out) × (l.place ≤ most_input)
 room c =
-    line_room c.loop-at.invariant c.loop-at-test.true c.requires.most_message_bytes_in_bounds c.requires.input_len_bound
+    line_room c.loop-at.invariant.0 c.loop-at-test.true c.requires.most_message_bytes_in_bounds c.requires.input_len_bound
 
 -- ---- what cannot be read
 
@@ -42,9 +42,11 @@ put_unread-requires c =
 
 pub returns-then-taken-eq0 : goal.returns-then-taken-eq0
 returns-then-taken-eq0 c =
-    let put = c.loop-at.invariant in
-    put_last put c.loop-at-test.true c.receive-receipt.ensures.0 c.if-taken-eq0.true c.requires.input_len_bound
-    (small (goal.at.returns-then-taken-eq0 c).After-receive-receipt) c.requires.most_message_bytes_in_bounds c.put_unread.ensures
+    let put = c.loop-at.invariant in (
+      put_last put.0 c.loop-at-test.true c.receive-receipt.ensures.0 c.if-taken-eq0.true c.requires.input_len_bound
+          (small (goal.at.returns-then-taken-eq0 c).After-receive-receipt) c.requires.most_message_bytes_in_bounds c.put_unread.ensures,
+      c.receive-receipt.ensures.1 ∙ put.1,
+    )
 
 -- ---- a message
 
@@ -55,7 +57,7 @@ inside : (c : Else-taken-eq0) →
     let n = c.receive-receipt.result.taken in
     (at + least_message ≤ size) × (least_message ≤ n) × (at + n ≤ size)
 inside c =
-    let put = c.loop-at.invariant in
+    let put = c.loop-at.invariant.0 in
     within put c.loop-at-test.true c.receive-receipt.ensures.0 c.if-taken-eq0.false
 
 pub idle-undone-requires : goal.idle-undone-requires
@@ -78,13 +80,16 @@ loop-at-smaller c =
     omega (arith, size.1, size.2, c.loop-at-test.true)
 
 pub loop-at-preserved : goal.loop-at-preserved
-loop-at-preserved c =
-    put_step c.loop-at.invariant c.loop-at-test.true c.receive-receipt.ensures.0 c.if-taken-eq0.false c.idle-undone.ensures (room (goal.at.loop-at-preserved c).In-loop-at).0 c.put_line-behind.ensures
+loop-at-preserved c = (
+  put_step c.loop-at.invariant.0 c.loop-at-test.true c.receive-receipt.ensures.0 c.if-taken-eq0.false c.idle-undone.ensures.0
+      (room (goal.at.loop-at-preserved c).In-loop-at).0 c.put_line-behind.ensures,
+  c.idle-undone.ensures.1 ∙ c.receive-receipt.ensures.1 ∙ c.loop-at.invariant.1,
+)
 
 -- ---- the end
 
 pub shape_of-out : goal.shape_of-out
-shape_of-out c = c.loop-at.invariant.lines.size
+shape_of-out c = c.loop-at.invariant.0.lines.size
 
 pub returns : goal.returns
-returns c = put-end c.loop-at.invariant c.loop-at-test.false c.requires.input_len_bound
+returns c = (put-end c.loop-at.invariant.0 c.loop-at-test.false c.requires.input_len_bound, c.loop-at.invariant.1)

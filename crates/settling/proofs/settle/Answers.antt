@@ -54,6 +54,7 @@ returns-in-Some c =
           (kept_waiting {p = memory c.args.p.now} c.requires.inv judged.held_at judged.strong judged.new
           (missing_is at.After-missing ∙ c.in-Some.is));
       spare = refl;
+      others = refl;
     }
 
 pub settle_moving-moved-requires : goal.settle_moving-moved-requires
@@ -101,4 +102,5 @@ returns c =
           (subst (λ (x : Context). Marked p.settled.words x.words (slot_of c.args.n) c.mark.new.settled)
           c.context_at-context.ensures c.mark.ensures);
       spare = refl;
+      others = refl;
     }

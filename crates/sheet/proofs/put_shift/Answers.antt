@@ -15,7 +15,7 @@ put_messages-at-requires c = record {
 
 pub put_closing-requires : goal.put_closing-requires
 put_closing-requires c =
-    let m = c.put_messages-at.ensures in
+    let m = c.put_messages-at.ensures.0 in
     record {
       inv = m.invariant;
       most_registers_bytes_in_bounds = omega (arith, c.requires.most_shift_bytes_in_bounds, m.few, m.lines.count, mid_long c.put_messages-at.result c.put_messages-at.new.out, c.put_messages-at.auto.out);
@@ -24,5 +24,5 @@ put_closing-requires c =
 pub returns : goal.returns
 returns c =
     let z = c.put_closing.ensures in
-    let m = c.put_messages-at.ensures in
-    record { written = shift_put m z; few = omega (arith, m.few, z.few) }
+    let m = c.put_messages-at.ensures.0 in
+    (record { written = shift_put m z; few = omega (arith, m.few, z.few) }, c.put_messages-at.ensures.1)
