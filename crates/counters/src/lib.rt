@@ -1,11 +1,11 @@
 // The step counters: one small record of the panel's own, which the counting of steps is lent and updates there.
 //
-// `count_undos` and `count_executions` are lent the counters and told how many steps were done. Whoever counts shows that the counter
-// stays within `most_steps` of `specs/`, so no addition overflows.
+// `count_undos` and `count_executions` are lent the counters and told how many steps were done. A panel's counters stay within `most_steps`
+// of `specs/`, so that theirs are the sums; other counters may pass what 32 bits hold, and go on from 0.
 #![tactic(auto)]
 
 ghost use Rattle.std.specs.Prelude.{◌≡◌, ◌+◌, ◌≤◌};
-ghost use Rattle.counters.specs.Counted.{most_steps, undos_counted, executions_counted};
+ghost use Rattle.counters.specs.Counted.{most_steps, undos_counted, undos_held, executions_counted, executions_held};
 
 // Undos done and executions (carry-outs) done.
 #[repr(C)]
@@ -17,16 +17,16 @@ pub struct Counters {
 
 // Counts so many undos in the lent counters.
 pub fn count_undos(c: &mut Counters, steps: u32)
-    requires { c.old.undos + steps ≤ most_steps }
-    ensures { c.new ≡ undos_counted c.old steps }
+    ensures held { c.new ≡ undos_held c.old steps }
+    ensures counted { c.old.undos + steps ≤ most_steps → c.new ≡ undos_counted c.old steps }
 {
-    c.undos += steps;
+    c.undos = c.undos.wrapping_add(steps);
 }
 
 // Counts so many executions in the lent counters.
 pub fn count_executions(c: &mut Counters, steps: u32)
-    requires { c.old.executions + steps ≤ most_steps }
-    ensures { c.new ≡ executions_counted c.old steps }
+    ensures held { c.new ≡ executions_held c.old steps }
+    ensures counted { c.old.executions + steps ≤ most_steps → c.new ≡ executions_counted c.old steps }
 {
-    c.executions += steps;
+    c.executions = c.executions.wrapping_add(steps);
 }
