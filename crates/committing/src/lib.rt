@@ -7,8 +7,8 @@ ghost use Rattle.sets.specs.Sets.{set_of};
 ghost use Rattle.request.specs.Refusal.{outcome_number};
 ghost use Rattle.creek.specs.Book.{commit as commit_call};
 ghost use Rattle.creek.specs.Replies.{reply_answer};
-ghost use Rattle.replica.specs.Memory.{memory, Done};
-ghost use Rattle.replica.specs.internal.Model.{Inv};
+ghost use Rattle.replica.specs.Uses.{settling_uses};
+ghost use Rattle.replica.specs.Memory.{Asks, Done};
 ghost use Rattle.settling.specs.Settling.{early_refusal};
 
 use creek::Reply;
@@ -18,7 +18,7 @@ use request::refusal::Refusal;
 
 // Settle the request of number n; what is refused without its context costs no call of `settling::settle`.
 pub fn commit(p: &mut Panel, n: Number) -> Reply
-    requires { Inv (memory p.old) }
+    requires { Asks (settling_uses p.old) }
     ensures { Done p.old (commit_call n) (reply_answer result) p.new }
 {
     if let Err(refusal) = early_refusal(p, n) {

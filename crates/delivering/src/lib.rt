@@ -10,8 +10,8 @@ ghost use Rattle.ordering.specs.Slots.{IsSlot};
 ghost use Rattle.store.specs.Requests.{request_at, Long};
 ghost use Rattle.creek.specs.Plan.{held_refusal};
 ghost use Rattle.creek.specs.Book.{deliver as deliver_call};
-ghost use Rattle.replica.specs.Memory.{memory, Done};
-ghost use Rattle.replica.specs.internal.Model.{Inv};
+ghost use Rattle.replica.specs.Uses.{hearing_uses};
+ghost use Rattle.replica.specs.Memory.{Asks, Done};
 ghost use Rattle.delivering.specs.Delivering.{judged, heard_answer};
 
 use numbers::PanelNo;
@@ -21,7 +21,7 @@ use request::{Request, asks};
 
 // A request of another panel is heard: it enters, unless it is refused.
 pub fn deliver(p: &mut Panel, x: &Request) -> Result<(), Refusal>
-    requires inv { Inv (memory p.old) }
+    requires inv { Asks (hearing_uses p.old) }
     requires words { length x.now.context.words ≡ most_panels }
     ensures { Done p.old (deliver_call x.now) (heard_answer result) p.new }
 {

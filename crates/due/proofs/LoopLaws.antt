@@ -3,26 +3,28 @@ use Prim.Native.Nat.{ℕ, ◌+◌, ◌-◌, ◌≤◌, ◌<◌}
 use native.Mathlib.Omega.{arith}
 use mathlib.Core.Path.{◌≡◌, refl, sym, ap, subst, ◌∙◌}
 use mathlib.Core.List.{List}
-use lib.ListN.{set, get_or}
+use lib.ListN.{set, replicate}
+use Rattle.sets.specs.Sets.{set_of}
 use Rattle.counters.specs.declared.Counters.{Counters}
-use Rattle.counters.specs.Counted.{most_steps, undos_counted, executions_counted}
+use Rattle.counters.specs.Counted.{most_steps, undos_counted, undos_held, executions_counted, executions_held, counted}
 use Rattle.creek.specs.Replies.{reply_in, no_mark, reply}
 use Rattle.creek.specs.declared.Reply.{Reply}
 use Rattle.replica.specs.State.{State}
 use Rattle.replica.specs.declared.Panel.{Panel}
-use Rattle.replica.specs.Memory.{memory, SameSpare}
-use Rattle.replica.specs.Changes.{stepping_changes}
+use Rattle.replica.specs.Uses.{stepping_uses}
+use Rattle.replica.specs.Memory.{memory, Asks}
 use Rattle.replica.specs.internal.Model.{Inv}
-use Rattle.board.specs.Board.{rolled_back, TakenOff, ExecutedAt}
+use Rattle.board.specs.Board.{TopAsks, rolled_back, TakenOff, NextAsks, ExecutedAt}
 use Rattle.due.specs.declared.DueSteps.{DueSteps}
-use Rattle.due.specs.Due.{most_replies, ran, RunDue}
-use Rattle.due.specs.internal.Job.{RolledBack, ExecutedAll}
+use Rattle.due.specs.Due.{no_reply, most_replies, ran, RunDue, DueKept}
+use Rattle.due.specs.internal.Job.{RolledBack, RolledKept, ExecutedAll, executed_by, ExecutedKept}
 use Rattle.replica.proofs.ChangesLaws.{changed_by}
-use Rattle.replica.proofs.BoundLaws.{undos_fit, executions_fit}
+use Rattle.replica.proofs.BoundLaws.{undos_fit, executions_fit, undos_held_are, executions_held_are}
+use Rattle.replica.proofs.ModelLaws.{top_slot_lem, next_slot_lem}
 use Rattle.replica.proofs.States.{executed_state}
 use Rattle.steps.proofs.ExecuteLaws.{NextReply}
-use Rattle.due.proofs.DueLaws.{Rolling, rolling_on, rolling-end, Executing, executing-end, executing_room}
-use Rattle.due.proofs.DueLaws.{executing_quiet, executing-replied, run_through}
+use Rattle.due.proofs.DueLaws.{Rolling, rolling_start, rolling_on, rolling-end, Executing, executing_start, executing-end}
+use Rattle.due.proofs.DueLaws.{executing_room, executing_quiet, executing-replied, run_through}
 
 -- ---- counting one step more
 
@@ -37,85 +39,167 @@ module _ (c : Counters) (from at : ℕ) where
       let more : c.executions + (at + 1 - from) ≡ c.executions + (at - from) + 1 = omega arith in
       λ i. record { undos = c.undos; executions = more i }
 
+-- none is counted at the start
+
+none_undone : (c : Counters) (n : ℕ) → c ≡ undos_counted c (n - n)
+none_undone c n =
+    let none : c.undos ≡ c.undos + (n - n) = omega arith in
+    λ i. record { undos = none i; executions = c.executions }
+
+none_executed : (c : Counters) (n : ℕ) → c ≡ executions_counted c (n - n)
+none_executed c n =
+    let none : c.executions ≡ c.executions + (n - n) = omega arith in
+    λ i. record { undos = c.undos; executions = none i }
+
 -- ---- the loop of undos
 
--- q with so many left on the board of those that were there, the undos counted
-abbrev pub rolled_to : Panel → (from left : ℕ) → State
-rolled_to q from left = record (memory q) { stacked = left; counters = undos_counted q.counters (from - left) }
+-- the state of a panel o with what the steps use as p has it, where so many are left on the board and the registers are those of q, the
+-- undos counted
+abbrev pub rolled_to : Panel → Panel → Panel → (left : ℕ) → State
+rolled_to p o q left = record (memory (stepping_uses p o)) {
+  stacked = left;
+  registers = q.registers;
+  counters = undos_counted o.counters (p.stacked - left);
+}
 
 -- from p to q the board was rolled back to so many
 pub record RollingTo (p q : Panel) (left : ℕ) : Type 0 where
   pub low : p.executed ≤ left
   pub high : left ≤ p.stacked
-  pub others : q ≡ stepping_changes p q
-  pub rolling : Rolling (memory p) (rolled_to q p.stacked left)
+  pub others : q ≡ record p { registers = q.registers }
+  pub rolling : (o : Panel) → Inv (memory (stepping_uses p o)) → Rolling (memory (stepping_uses p o)) (rolled_to p o q left)
+
+pub rolling_to_start : (p : Panel) → p.executed ≤ p.stacked → RollingTo p p p.stacked
+rolling_to_start p within =
+    record {
+      low = within;
+      high = omega arith;
+      others = refl;
+      rolling = λ o inv.
+          let s = memory (stepping_uses p o) in
+          subst (λ (c : Counters). Rolling s (record s { counters = c })) (none_undone o.counters p.stacked)
+          (rolling_start s inv);
+    }
 
 module _ {p q : Panel} {left : ℕ} (h : RollingTo p q left) where
-  pub roll_on : p.executed < left → {z : Panel} {s : ℕ} → TakenOff q (left - 1) z s → RollingTo p z (left - 1)
-  roll_on more {z} off =
-      let again : left - 1 + 1 ≡ left = omega arith in
-      let after : Panel → State = λ (r : Panel). rolled_to r p.stacked (left - 1) in
+  module _ (more : p.executed < left) where
+    pub roll_top : (o : Panel) → Inv (memory (stepping_uses p o)) → TopAsks q.stack (left - 1)
+    roll_top o inv =
+        let at = h.rolling o inv in
+        rw h.others (record {
+          place = omega (arith, at.invariant.counts, at.invariant.lengths);
+          slot = top_slot_lem (rolled_to p o q left) at.invariant (omega (arith, at.executed));
+        })
+
+    pub roll_on : {z : Panel} {s : ℕ} → TakenOff q (left - 1) z s → RollingTo p z (left - 1)
+    roll_on {z} {s} taken =
+        let here : Panel = record p { registers = q.registers } in
+        let off : TakenOff here (left - 1) z s = subst (λ (y : Panel). TakenOff y (left - 1) z s) h.others taken in
+        let again : left - 1 + 1 ≡ left = omega arith in
+        record {
+          low = omega arith;
+          high = omega (arith, h.high);
+          others = changed_by (λ (y : Panel). record p { registers = y.registers }) off.panel refl;
+          rolling = λ o inv.
+              let at = h.rolling o inv in
+              subst (λ (y : Panel). Rolling (memory (stepping_uses p o)) (rolled_to p o y (left - 1))) (sym off.panel)
+              (rolling_on (memory (stepping_uses p o)) (rolled_to p o q left) at (omega (arith, at.executed)) (rolled_back here (left - 1))
+              (undos_counted o.counters (p.stacked - (left - 1))) refl
+              (undone_more o.counters p.stacked (left - 1) (omega (arith, h.high))
+              ∙ ap (λ (n : ℕ). undos_counted (undos_counted o.counters (p.stacked - n)) 1) again));
+        }
+
+  pub roll_end : left ≤ p.executed → (counters : Counters) → counters ≡ undos_held q.counters (p.stacked - p.executed)
+      → RolledKept p (record q { stacked = p.executed; counters = counters })
+  roll_end all counters counted =
+      let end : left ≡ p.executed = omega (arith, h.low) in
       record {
-        low = omega arith;
-        high = omega (arith, h.high);
+        kept = λ o inv.
+            let s = memory (stepping_uses p o) in
+            let at = h.rolling o inv in
+            subst (λ (n : ℕ). RolledBack s (rolled_to p o q n)) end
+            (rolling-end s (rolled_to p o q left) at (omega (arith, at.executed)));
         others =
-            changed_by (stepping_changes p)
-            (off.panel ∙ ap (λ (r : Panel). record r { registers = rolled_back q (left - 1) }) h.others) refl;
-        rolling =
-            subst (λ (r : State). Rolling (memory p) r) (sym (ap after off.panel))
-            (rolling_on (memory p) (rolled_to q p.stacked left) h.rolling (omega (arith, h.rolling.executed)) (rolled_back q (left - 1))
-            (undos_counted q.counters (p.stacked - (left - 1))) refl
-            (undone_more q.counters p.stacked (left - 1) (omega (arith, h.high))
-            ∙ ap (λ (n : ℕ). undos_counted (undos_counted q.counters (p.stacked - n)) 1) again));
+            ap (λ (y : Panel). record y { stacked = p.executed; counters = counters }) h.others
+            ∙ ap (λ (c : Counters). record p { stacked = p.executed; registers = q.registers; counters = c })
+            (counted ∙ ap (λ (y : Panel). undos_held y.counters (p.stacked - p.executed)) h.others);
       }
-
-  module _ (all : left ≤ p.executed) where
-    done : RolledBack (memory p) (rolled_to q p.stacked p.executed)
-    done =
-        let end : left ≡ p.executed = omega (arith, h.low) in
-        subst (λ (n : ℕ). RolledBack (memory p) (rolled_to q p.stacked n)) end
-        (rolling-end (memory p) (rolled_to q p.stacked left) h.rolling (omega (arith, h.rolling.executed)))
-
-    pub roll_counts : q.counters.undos + (p.stacked - p.executed) ≤ most_steps
-    roll_counts = undos_fit (rolled_to q p.stacked p.executed) done.invariant
 
 -- ---- the loop of executions
 
--- q with so many executed, those behind the first counted
-abbrev pub executed_to : Panel → (from at : ℕ) → State
-executed_to q from at = record (memory q) { executed = at; stacked = at; counters = executions_counted q.counters (at - from) }
+-- the state of such a panel o where so many are executed and the rest is that of q, those behind the first counted
+abbrev pub executed_to : Panel → Panel → Panel → (at : ℕ) → State
+executed_to p o q at = record (memory (stepping_uses p o)) {
+  executed = at;
+  stacked = at;
+  counters = executions_counted o.counters (at - p.executed);
+  awaiting = set_of q.awaiting;
+  stack = q.stack;
+  registers = q.registers;
+  saved = q.saved;
+  responses = q.responses;
+}
+
+-- p with what an execution changes as q has it, but for how many are executed
+abbrev pub written : Panel → Panel → Panel
+written p q = record p {
+  awaiting = q.awaiting;
+  stack = q.stack;
+  registers = q.registers;
+  saved = q.saved;
+  responses = q.responses;
+}
 
 -- from p to q all before `at` was executed, and the first n of the array are the replies that fell due
 pub record ExecutingTo (p q : Panel) (replies : List Reply) (n at : ℕ) : Type 0 where
   pub low : p.executed ≤ at
   pub high : at ≤ p.ordered
-  pub ordered : q.ordered ≡ p.ordered
-  pub others : q ≡ stepping_changes p q
-  pub executing : Executing (memory p) (executed_to q p.executed at) replies n
+  pub others : q ≡ written p q
+  pub executing : (o : Panel) → Inv (memory (stepping_uses p o)) → Executing (memory (stepping_uses p o)) (executed_to p o q at) replies n
+
+pub executing_to_start : (p : Panel) → p.executed ≤ p.ordered → p.executed ≡ p.stacked → (none : Reply) → none ≡ no_reply
+    → ExecutingTo p p (replicate most_replies none) 0 p.executed
+executing_to_start p within idle none is =
+    record {
+      low = omega arith;
+      high = within;
+      others = refl;
+      executing = λ o inv.
+          let s = memory (stepping_uses p o) in
+          subst (λ (c : Counters). Executing s (record s { executed = p.executed; stacked = p.executed; counters = c }) (replicate most_replies none) 0)
+          (none_executed o.counters p.executed)
+          (subst (λ (k : ℕ). Executing s (record s { stacked = k }) (replicate most_replies none) 0) (sym idle)
+          (executing_start s none inv idle is));
+    }
 
 module _ {p q : Panel} {replies : List Reply} {n at : ℕ} (h : ExecutingTo p q replies n at) where
-  abbrev here : State
-  here = executed_to q p.executed at
-
   module _ (more : at < p.ordered) where
-    more_here : at < q.ordered
-    more_here = omega (arith, h.ordered)
+    pub execute_next : (o : Panel) → Inv (memory (stepping_uses p o)) → NextAsks q.order at
+    execute_next o inv =
+        let here = (h.executing o inv).invariant in
+        rw h.others (record {
+          place = omega (arith, here.counts, here.lengths);
+          slot = next_slot_lem (executed_to p o q at) here more;
+        })
 
-    module _ {z : Panel} {r : Reply} (next : ExecutedAt q at z r) where
-      about : NextReply here r.number r.mark
-      about = record { number = next.number; mark = next.mark }
+    module _ {z : Panel} {r : Reply} (done : ExecutedAt q at z r) where
+      next : ExecutedAt (written p q) at z r
+      next = subst (λ (y : Panel). ExecutedAt y at z r) h.others done
+
+      about : (o : Panel) → NextReply (executed_to p o q at) r.number r.mark
+      about o = record { number = next.number; mark = next.mark }
 
       -- one execution more is counted
-      abbrev counted : Counters
-      counted = executions_counted q.counters (at + 1 - p.executed)
+      abbrev one_more : Panel → Counters
+      one_more o = executions_counted o.counters (at + 1 - p.executed)
 
-      counted_one : counted ≡ executions_counted (executions_counted q.counters (at - p.executed)) 1
-      counted_one = executed_more q.counters p.executed at h.low
+      counted_one : (o : Panel) → one_more o ≡ executions_counted (executions_counted o.counters (at - p.executed)) 1
+      counted_one o = executed_more o.counters p.executed at h.low
 
-      pub execute_room : (r.mark ≡ no_mark → ⊥) → n < most_replies
-      execute_room due =
-          executing_room (memory p) here replies n h.executing more_here z.registers next.word r.response r.number r.mark next.restores
-          next.done about due
+      pub execute_room : (o : Panel) → Inv (memory (stepping_uses p o)) → (r.mark ≡ no_mark → ⊥) → n < most_replies
+      execute_room o inv due =
+          executing_room (memory (stepping_uses p o)) (executed_to p o q at) replies n (h.executing o inv) more z.registers next.word
+          r.response r.number r.mark next.restores next.done (about o) due
 
       -- what the reply is, field by field
       said : r ≡ reply_in (reply r.number r.response r.mark)
@@ -123,80 +207,112 @@ module _ {p q : Panel} {replies : List Reply} {n at : ℕ} (h : ExecutingTo p q 
 
       -- the state after it, as the panel has it
       moved : (replies : List Reply) (n : ℕ)
-          → Executing (memory p) (executed_state here z.registers next.word r.response z.awaiting counted) replies n
+          → ((o : Panel) → Inv (memory (stepping_uses p o)) → Executing (memory (stepping_uses p o))
+          (executed_state (executed_to p o q at) z.registers next.word r.response z.awaiting (one_more o)) replies n)
           → ExecutingTo p z replies n (at + 1)
-      moved replies n e =
-          let after : Panel → State = λ (y : Panel). executed_to y p.executed (at + 1) in
-          let executed_on : Panel → Panel =
-          λ (y : Panel). record y {
-            awaiting = z.awaiting;
-            stack = set q.stack at (get_or q.order at 0);
-            registers = z.registers;
-            saved = set q.saved at next.word;
-            responses = set q.responses at r.response;
-          } in
-          record {
-            low = omega (arith, h.low);
-            high = omega arith;
-            ordered = ap (λ (y : Panel). y.ordered) next.panel ∙ h.ordered;
-            others = changed_by (stepping_changes p) (next.panel ∙ ap executed_on h.others) refl;
-            executing = subst (λ (y : State). Executing (memory p) y replies n) (sym (ap after next.panel)) e;
-          }
+      moved replies n e = record {
+        low = omega (arith, h.low);
+        high = omega arith;
+        others = changed_by (written p) next.panel refl;
+        executing = λ o inv.
+            subst (λ (y : Panel). Executing (memory (stepping_uses p o)) (executed_to p o y (at + 1)) replies n) (sym next.panel) (e o inv);
+      }
 
       pub execute_quiet : r.mark ≡ no_mark → ExecutingTo p z replies n (at + 1)
       execute_quiet quiet =
           moved replies n
-          (executing_quiet (memory p) here replies n h.executing more_here z.registers next.word r.response r.number r.mark
-          next.restores next.done about z.awaiting counted next.waits counted_one quiet)
+          (λ o inv. executing_quiet (memory (stepping_uses p o)) (executed_to p o q at) replies n (h.executing o inv) more z.registers next.word
+          r.response r.number r.mark next.restores next.done (about o) z.awaiting (one_more o) next.waits (counted_one o) quiet)
 
       pub execute-replied : (r.mark ≡ no_mark → ⊥) → ExecutingTo p z (set replies n r) (n + 1) (at + 1)
       execute-replied due =
           moved (set replies n r) (n + 1)
-          (executing-replied (memory p) here replies n h.executing more_here z.registers next.word r.response r.number r.mark
-          next.restores next.done about z.awaiting counted next.waits counted_one due r said)
+          (λ o inv. executing-replied (memory (stepping_uses p o)) (executed_to p o q at) replies n (h.executing o inv) more z.registers next.word
+          r.response r.number r.mark next.restores next.done (about o) z.awaiting (one_more o) next.waits (counted_one o) due r said)
 
-  module _ (all : p.ordered ≤ at) where
-    abbrev end_here : State
-    end_here = executed_to q p.executed p.ordered
-
-    ended : (undos : ℕ)
-        → ExecutedAll (memory p) undos
-        (record { undos = undos; executions = p.ordered - p.executed; count = n; replies = replies; state = end_here })
-    ended undos =
-        let end : at ≡ p.ordered = omega (arith, h.high) in
-        subst (λ (k : ℕ). ExecutedAll (memory p) undos (record {
-          undos = undos;
-          executions = p.ordered - p.executed;
-          count = n;
-          replies = replies;
-          state = executed_to q p.executed k;
-        })) end
-        (executing-end (memory p) here replies n h.executing (omega (arith, h.ordered)) undos (p.ordered - p.executed) refl)
-
-    pub execute_counts : q.counters.executions + (p.ordered - p.executed) ≤ most_steps
-    execute_counts = executions_fit end_here (ended 0).invariant
-
-    pub execute-end : (undos : ℕ) (counters : Counters) → counters ≡ executions_counted q.counters (p.ordered - p.executed)
-        → ExecutedAll (memory p) undos
-        (ran (record { undos = undos; executions = p.ordered - p.executed; count = n; replies = replies })
-        (memory (record q { executed = p.ordered; stacked = p.ordered; counters = counters })))
-        × (record q { executed = p.ordered; stacked = p.ordered; counters = counters }
-        ≡ stepping_changes p (record q { executed = p.ordered; stacked = p.ordered; counters = counters }))
-    execute-end undos counters counted = (
-      rw counted (ended undos),
-      ap (λ (r : Panel). record r { executed = p.ordered; stacked = p.ordered; counters = counters }) h.others,
-    )
+  pub execute-end : p.ordered ≤ at → (undos : ℕ) (counters : Counters) → counters ≡ executions_held q.counters (p.ordered - p.executed)
+      → ExecutedKept p undos (record { undos = undos; executions = p.ordered - p.executed; count = n; replies = replies })
+      (record q { executed = p.ordered; stacked = p.ordered; counters = counters })
+  execute-end all undos counters counted =
+      let end : at ≡ p.ordered = omega (arith, h.high) in
+      record {
+        kept = λ o inv.
+            let s = memory (stepping_uses p o) in
+            subst (λ (k : ℕ). ExecutedAll s undos (record {
+              undos = undos;
+              executions = p.ordered - p.executed;
+              count = n;
+              replies = replies;
+              state = executed_to p o q k;
+            })) end
+            (executing-end s (executed_to p o q at) replies n (h.executing o inv) all undos (p.ordered - p.executed) refl);
+        handed = refl;
+        others =
+            ap (λ (y : Panel). record y { executed = p.ordered; stacked = p.ordered; counters = counters }) h.others
+            ∙ ap (λ (c : Counters). record (written p q) { executed = p.ordered; stacked = p.ordered; counters = c })
+            (counted ∙ ap (λ (y : Panel). executions_held y.counters (p.ordered - p.executed)) h.others);
+      }
 
 -- ---- both
 
-pub all_due_is : {p q z : Panel} {undos : ℕ} {r : DueSteps} → Inv (memory p)
-    → RolledBack (memory p) (memory q) × (q ≡ stepping_changes p q) → undos ≡ p.stacked - p.executed
-    → ExecutedAll (memory q) undos (ran r (memory z)) × (z ≡ stepping_changes q z)
-    → RunDue (memory p) (ran r (memory z)) × SameSpare p z × (z ≡ stepping_changes p z)
-all_due_is {p} {q} {z} {r = r} inv back is all =
-    let others : z ≡ stepping_changes p z = all.1 ∙ ap (λ (y : Panel). stepping_changes y z) back.1 in (
-      run_through (memory p) (memory q) (ran r (memory z)) inv back.0
-          (subst (λ (n : ℕ). ExecutedAll (memory q) n (ran r (memory z))) is all.0),
-      ap (λ (y : Panel). y.spare) others,
-      others,
-    )
+-- counted in 32 bits, it is the same state where it has the invariant
+steps_held : (c : Counters) (undos executions : ℕ) → (counted c undos executions).undos ≤ most_steps
+    → (counted c undos executions).executions ≤ most_steps
+    → counted c undos executions ≡ executions_held (undos_held c undos) executions
+steps_held c undos executions few fewer =
+    executions_held_are (undos_counted c undos) executions fewer
+    ∙ ap (λ (k : Counters). executions_held k executions) (undos_held_are c undos few)
+
+module _ {p q : Panel} (back : RolledKept p q) where
+  -- q, but that all of p is named that did not change
+  abbrev rolled : Panel
+  rolled = record p {
+    stacked = q.stacked;
+    registers = q.registers;
+    counters = undos_held p.counters (p.stacked - p.executed);
+  }
+
+  pub nothing_left : (o : Panel) → Inv (memory (stepping_uses p o)) → q.executed ≡ q.stacked
+  nothing_left o inv = ap (λ (y : Panel). y.executed) back.others ∙ (back.kept o inv).nothing
+
+  pub still_asked : (o : Panel) → Inv (memory (stepping_uses p o)) → Asks (stepping_uses q)
+  still_asked o inv =
+      subst (λ (y : Panel). Asks (stepping_uses y)) (sym back.others)
+      (record { panel = record o { counters = undos_counted o.counters (p.stacked - p.executed) }; invariant = (back.kept o inv).invariant })
+
+  module _ {z : Panel} {undos : ℕ} {r : DueSteps} (is : undos ≡ p.stacked - p.executed) (all : ExecutedKept q undos r z) where
+    executed : ExecutedKept rolled undos r z
+    executed = subst (λ (y : Panel). ExecutedKept y undos r z) back.others all
+
+    undos_are : p.stacked - p.executed ≡ r.undos
+    undos_are = sym (executed.handed ∙ is)
+
+    -- every due step was done on such a panel, and counted
+    due_done : (o : Panel) → Inv (memory (stepping_uses p o)) → RunDue (memory (stepping_uses p o))
+        (ran r (memory (executed_by (counted o.counters r.undos r.executions) (stepping_uses p o) z)))
+    due_done o inv =
+        let s = memory (stepping_uses p o) in
+        let rolled_back = back.kept o inv in
+        let here : Panel = record o { counters = undos_counted o.counters (p.stacked - p.executed) } in
+        subst (λ (n : ℕ). RunDue s (ran r (memory (executed_by (counted o.counters n r.executions) (stepping_uses p o) z))))
+        undos_are
+        (run_through s _ _ inv rolled_back
+        (subst (λ (n : ℕ). ExecutedAll (memory (stepping_uses rolled here)) n
+        (ran r (memory (executed_by (executions_counted here.counters r.executions) (stepping_uses rolled here) z))))
+        is (executed.kept here rolled_back.invariant)))
+
+    pub all_due_is : DueKept p r z
+    all_due_is = record {
+      kept = λ o inv.
+          let done = due_done o inv in
+          subst (λ (c : Counters). RunDue (memory (stepping_uses p o)) (ran r (memory (executed_by c (stepping_uses p o) z))))
+          (steps_held o.counters r.undos r.executions (undos_fit _ done.invariant) (executions_fit _ done.invariant)) done;
+      spare = ap (λ (y : Panel). y.spare) executed.others;
+      others =
+          subst (λ (n : ℕ). z ≡ executed_by (executions_held (undos_held p.counters n) r.executions) p z) undos_are executed.others;
+    }
+
+-- ---- of the panel itself, where it came from fresh and the calls
+
+pub due_here : {p q : Panel} {r : DueSteps} → DueKept p r q → Inv (memory p) → RunDue (memory p) (ran r (memory q))
+due_here {p} {q} {r} d inv = subst (λ (z : Panel). RunDue (memory p) (ran r (memory z))) (sym d.others) (d.kept p inv)

@@ -10,6 +10,11 @@ use Rattle.creek.specs.History.{due_call, idled}
 use Rattle.creek.specs.Showing.{owed_shown}
 use Rattle.creek.specs.declared.Reply.{Reply}
 use Rattle.replica.specs.State.{State}
+use Rattle.counters.specs.Counted.{undos_held, executions_held}
+use Rattle.replica.specs.declared.Panel.{Panel}
+use Rattle.replica.specs.Uses.{stepping_uses}
+use Rattle.replica.specs.Changes.{stepping_changes}
+use Rattle.replica.specs.Memory.{memory, SameSpare}
 use Rattle.replica.specs.internal.Model.{model, Inv}
 use Rattle.due.specs.declared.DueSteps.{DueSteps}
 
@@ -73,3 +78,18 @@ pub record RunDue (p : State) (r : DueOutcome) : Type 0 where
   pub replies : r.replies ≡ padded (replies_owed p)
   pub idle : is_idle (model r.state).book.execution ≡ true
   pub invariant : Inv r.state
+
+-- ---- on a panel in place
+
+-- what all due steps may change of a panel: p with that as q has it, and those steps counted
+abbrev pub due_changes : DueSteps → Panel → Panel → Panel
+due_changes r p q = record (stepping_changes p q) { counters = executions_held (undos_held p.counters r.undos) r.executions }
+
+-- every due step was done on p, which became q
+pub record DueKept (p : Panel) (r : DueSteps) (q : Panel) : Type 0 where
+  -- of every panel that came from fresh and the calls and has what the steps use as p has it
+  pub kept : (o : Panel) → Inv (memory (stepping_uses p o))
+      → RunDue (memory (stepping_uses p o)) (ran r (memory (due_changes r (stepping_uses p o) q)))
+  pub spare : SameSpare p q
+  -- what the steps do not change is as it was
+  pub others : q ≡ due_changes r p q

@@ -2,11 +2,10 @@
 #![tactic(auto)]
 
 ghost use Rattle.std.specs.Prelude.{◌≡◌, ◌-◌};
-ghost use Rattle.replica.specs.Changes.{stepping_changes};
-ghost use Rattle.replica.specs.Memory.{memory, SameSpare};
-ghost use Rattle.replica.specs.internal.Model.{Inv};
-ghost use Rattle.due.specs.Due.{no_reply, ran, RunDue};
-ghost use Rattle.due.specs.internal.Job.{RolledBack, ExecutedAll};
+ghost use Rattle.replica.specs.Uses.{stepping_uses};
+ghost use Rattle.replica.specs.Memory.{Asks};
+ghost use Rattle.due.specs.Due.{no_reply, DueKept};
+ghost use Rattle.due.specs.internal.Job.{RolledKept, ExecutedKept};
 
 use creek::{Mark, Reply};
 use numbers::Number;
@@ -26,8 +25,8 @@ pub struct DueSteps {
 
 // Every due step until the panel is idle, with the replies that fall due on the way.
 pub fn run_due(p: &mut Panel) -> DueSteps
-    requires { Inv (memory p.old) }
-    ensures { RunDue (memory p.old) (ran result (memory p.new)) × SameSpare p.old p.new × (p.new ≡ stepping_changes p.old p.new) }
+    requires { Asks (stepping_uses p.old) }
+    ensures { DueKept p.old result p.new }
 {
     let undos = roll_back_all(p);
     execute_all(p, undos)
@@ -35,8 +34,8 @@ pub fn run_due(p: &mut Panel) -> DueSteps
 
 // Undoes what is to be rolled back; how many undos these were.
 fn roll_back_all(p: &mut Panel) -> u32
-    requires { Inv (memory p.old) }
-    ensures back { RolledBack (memory p.old) (memory p.new) × (p.new ≡ stepping_changes p.old p.new) }
+    requires asks { Asks (stepping_uses p.old) }
+    ensures back { RolledKept p.old p.new }
     ensures undos { result ≡ p.old.stacked - p.old.executed }
 {
     let executed = p.executed;
@@ -52,9 +51,9 @@ fn roll_back_all(p: &mut Panel) -> u32
 
 // Executes what is to do, with nothing to be rolled back; `undos` is handed through.
 fn execute_all(p: &mut Panel, undos: u32) -> DueSteps
-    requires inv { Inv (memory p.old) }
+    requires asks { Asks (stepping_uses p.old) }
     requires nothing_to_undo { p.old.executed ≡ p.old.stacked }
-    ensures { ExecutedAll (memory p.old) undos (ran result (memory p.new)) × (p.new ≡ stepping_changes p.old p.new) }
+    ensures { ExecutedKept p.old undos result p.new }
 {
     let first = p.executed;
     let ordered = p.ordered;

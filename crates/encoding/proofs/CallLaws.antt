@@ -2,19 +2,22 @@
 use Prim.Native.Nat.{ℕ, ◌+◌}
 use native.Mathlib.Omega.{arith}
 use Rattle.std.specs.Prelude.{Some, None, if◌then◌else◌}
-use mathlib.Core.Path.{◌≡◌, refl, sym, ap, subst}
-use mathlib.Core.Bool.{Bool, true, false, ◌||◌, cond}
+use mathlib.Core.Path.{◌≡◌, refl, sym, subst}
+use mathlib.Core.Bool.{Bool, true, false, cond}
 use mathlib.Core.List.{List}
 use lib.ListN.{get_or}
 use lib.Dec.{eqb}
 use borrow.Author.Tests.{eq-eqb, ne_eqb, eqb-true}
 use Rattle.text.specs.Written.{Written}
-use Rattle.lists.proofs.BoolLaws.{true_not_false}
 use Rattle.creek.specs.declared.Answer.{Answer}
-use Rattle.creek.specs.Book.{Call, invoke, undo, execute}
+use Rattle.creek.specs.Book.{Call, invoke, deliver, commit, undo, execute}
 use Rattle.replica.specs.State.{State, Called}
 use Rattle.replica.specs.declared.Panel.{Panel}
+use Rattle.replica.specs.Memory.{Done as CallDone}
 use Rattle.replica.specs.Promises.{Kept}
+use Rattle.replica.proofs.ChangesLaws.{changed_by}
+use Rattle.due.specs.declared.DueSteps.{DueSteps}
+use Rattle.due.specs.Due.{DueKept}
 use Rattle.wire.specs.Message.{BusMessage}
 use Rattle.intake.specs.Intake.{call_of}
 use Rattle.encoding.specs.declared.calls.Step.{Step}
@@ -95,3 +98,15 @@ put-kept {p} {q} k w = put-done (done-one p _ _ k) w
 -- what the same entry under another name changes
 pub changed_as : {x y : Entry} → x ≡ y → (p q : Panel) → q ≡ entry_changes y p q → q ≡ entry_changes x p q
 changed_as e p q others = subst (λ (x : Entry). q ≡ entry_changes x p q) (sym e) others
+
+-- ---- what carrying out an entry changes
+
+pub call_changed : (c : Call) {a : Answer} {p q : Panel} → CallDone p c a q → q ≡ entry_changes (one c) p q
+call_changed (invoke i) d = d.others
+call_changed (deliver x) d = d.others
+call_changed (commit n) d = d.others
+call_changed undo {p = p} d = changed_by (entry_changes (one undo) p) d.others refl
+call_changed execute {p = p} d = changed_by (entry_changes (one execute) p) d.others refl
+
+pub due_changed : {r : DueSteps} {p q : Panel} → DueKept p r q → q ≡ entry_changes all_due p q
+due_changed {p = p} d = changed_by (entry_changes all_due p) d.others refl

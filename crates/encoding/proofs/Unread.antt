@@ -8,26 +8,27 @@ use lib.Dec.{ltb}
 use borrow.Author.Tests.{eq-eqb, ne_eqb}
 use Rattle.numbers.specs.Numbers.{bad_number, no_number}
 use Rattle.request.specs.Refusal as refused_by
+use Rattle.creek.specs.declared.Answer.{Answer}
 use Rattle.creek.specs.Book.{Book, refusal}
 use Rattle.creek.specs.Plan.{deliver_refusal}
 use Rattle.creek.specs.Replies.{answer_of, named_by_refusal, refused_with}
 use Rattle.creek.specs.Calls.{Replica, step, answer}
 use Rattle.replica.specs.State.{State}
 use Rattle.replica.specs.declared.Panel.{Panel}
-use Rattle.replica.specs.Changes.{entering_changes, call_changes}
+use Rattle.replica.specs.Changes.{entering_changes}
 use Rattle.replica.specs.Promises.{Kept}
 use Rattle.replica.specs.internal.Model.{model}
 use Rattle.replica.proofs.ChangesLaws.{changed_by}
 use Rattle.wire.specs.Layout.{least_message}
 use Rattle.request.specs.Request.{no_request}
-use Rattle.wire.specs.declared.Message.TheVariants.{Request as request}
+use Rattle.wire.specs.declared.Message.TheVariants.{Request as request, Settlement as settlement}
 use Rattle.wire.specs.Message.{BusMessage}
 use Rattle.wire.specs.Reader.{Outcome, message, end, refused, read_at}
 use Rattle.wire.proofs.RoundTrip.{taken_least}
 use Rattle.intake.specs.declared.Receipt.{Receipt}
 use Rattle.intake.specs.Intake.{call_of, answer_to, received, is_taken_in, receiving_changes, Received}
-use Rattle.encoding.specs.Encoding.{message_at, message_of}
-use Rattle.encoding.specs.internal.Running.{receipt_answer}
+use Rattle.encoding.specs.Encoding.{one, message_at, message_of}
+use Rattle.encoding.specs.internal.Running.{receipt_answer, entry_changes}
 
 -- its number is bad in every shop
 unread-refused : (b : Book) → refusal b (call_of (request no_request)) ≡ refused_by.bad_number
@@ -77,14 +78,16 @@ pub received-kept : {p q : State} {r : Receipt} (s : List ℕ) (at : ℕ) → Re
 unfolding message_at
 received-kept {p} {q} {r} s at got = kept_by p q (read_at s at) r (taken_least s at) got
 
-changed_by_outcome : (o : Outcome) (p q : Panel) → q ≡ receiving_changes o p q → q ≡ call_changes (call_of (message_of o)) p q
+changed_by_outcome : (o : Outcome) (a : Answer) (p q : Panel) → q ≡ receiving_changes o a p q
+    → q ≡ entry_changes (one (call_of (message_of o))) p q
 unfolding call_of
-changed_by_outcome (message m n) p q others = others
-changed_by_outcome end p q others = changed_by (entering_changes p) others refl
-changed_by_outcome (refused w) p q others = changed_by (entering_changes p) others refl
+changed_by_outcome (message (request x) n) a p q others = others
+changed_by_outcome (message (settlement k) n) a p q others = others
+changed_by_outcome end a p q others = changed_by (entering_changes p) others refl
+changed_by_outcome (refused w) a p q others = changed_by (entering_changes p) others refl
 
 -- and changes of a panel what that call may
-pub received_changes : (p q : Panel) (s : List ℕ) (at : ℕ) → q ≡ receiving_changes (read_at s at) p q
-    → q ≡ call_changes (call_of (message_at s at)) p q
+pub received_changes : (a : Answer) (p q : Panel) (s : List ℕ) (at : ℕ) → q ≡ receiving_changes (read_at s at) a p q
+    → q ≡ entry_changes (one (call_of (message_at s at))) p q
 unfolding message_at
-received_changes p q s at others = changed_by_outcome (read_at s at) p q others
+received_changes a p q s at others = changed_by_outcome (read_at s at) a p q others

@@ -1,13 +1,9 @@
 -- What may enter the plan may enter the state.
-use Prim.Native.Nat.{ℕ}
 use native.Mathlib.Omega.{arith}
-use mathlib.Core.Path.{◌≡◌, sym, ap, subst, ◌∙◌}
-use mathlib.Core.List.{List}
+use mathlib.Core.Path.{sym, ap, ◌∙◌}
 use lib.ListN.{length}
 use Rattle.lists.proofs.ListLaws.{one_zero}
-use Rattle.numbers.specs.declared.Clock.{Clock}
 use Rattle.numbers.specs.declared.Number.{Number}
-use Rattle.request.specs.declared.Asked.{Asked}
 use Rattle.request.specs.declared.Request.{Request}
 use Rattle.numbers.specs.Numbers.{most_panels}
 use Rattle.numbers.specs.internal.Slots.{GoodNumber}
@@ -17,10 +13,8 @@ use Rattle.creek.proofs.HeldLaws.{good-request, widened, held-few}
 use Rattle.creek.proofs.AcceptanceLaws.{New}
 use Rattle.creek.proofs.EnteredLaws.{entered-length, entered_sound}
 use Rattle.replica.specs.State.{State}
-use Rattle.replica.specs.declared.Panel.{Panel}
 use Rattle.replica.specs.internal.Model.{plan_of, Inv}
-use Rattle.store.specs.Requests.{request_of}
-use Rattle.entering.specs.Entering.{Enters, EnterAsks, EnterKept}
+use Rattle.entering.specs.Entering.{Enters}
 use Rattle.replica.proofs.ModelLaws.{plan_sound, order-planned, length-order}
 use Rattle.replica.proofs.RequestLaws.{count_held}
 

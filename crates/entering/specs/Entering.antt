@@ -14,6 +14,7 @@ use Rattle.counters.specs.Counted.{counted}
 use Rattle.creek.specs.internal.Sound.{Sound, most_requests}
 use Rattle.replica.specs.State.{State}
 use Rattle.replica.specs.declared.Panel.{Panel}
+use Rattle.replica.specs.Uses.{entering_uses}
 use Rattle.replica.specs.Changes.{entering_changes}
 use Rattle.replica.specs.Memory.{memory, SameSpare}
 use Rattle.replica.specs.internal.Model.{plan_of, book_of, model, Inv}
@@ -72,19 +73,23 @@ owning awaiting events clock p = record {
   settled = p.settled;
 }
 
--- x, of that slot and place, may enter p, which came from fresh and the calls
-pub record EnterAsks (p : State) (slot at : ℕ) (x : Request) : Type 0 where
-  pub invariant : Inv p
-  pub enters : Enters p x
+-- x, of that slot and place, may enter some panel that came from fresh and the calls and has what is used as p has it
+pub record EnterAsks (p : Panel) (slot at : ℕ) (x : Request) : Type 0 where
+  pub panel : Panel
+  pub invariant : Inv (memory (entering_uses p panel))
+  pub enters : Enters (memory (entering_uses p panel)) x
   pub its_slot : slot ≡ slot_of x.number
-  pub its_place : at ≡ place_for p.clocks p.order p.committed p.ordered x.clock.0 slot
+  pub its_place : at ≡ place_for p.clocks p.order panel.committed p.ordered x.clock.0 slot
   pub words : length x.context.words ≡ most_panels
 
--- x entered p, which became q; of the own requests q keeps what p kept, or what is put there afterwards
-pub record EnterKept (p : Panel) (x : Request) (q : Panel) : Type 0 where
-  pub heard : Entered (memory p) x (memory p).awaiting (memory p).events (memory p).clock (memory q)
-  pub made : (awaiting : List ℕ) (events : ℕ) (clock : Clock)
-      → Entered (memory p) x (set_of awaiting) events clock (owning awaiting events clock (memory q))
+-- x entered p, which became q
+pub record EnterKept (p : Panel) (slot at : ℕ) (x : Request) (q : Panel) : Type 0 where
+  -- of every such panel; of the own requests it keeps what it kept, or what is put there afterwards
+  pub kept : (r : Panel) → Inv (memory (entering_uses p r)) → Enters (memory (entering_uses p r)) x
+      → at ≡ place_for p.clocks p.order r.committed p.ordered x.clock.0 slot
+      → (awaiting : List ℕ) (events : ℕ) (clock : Clock)
+      → Entered (memory (entering_uses p r)) x (set_of awaiting) events clock
+      (owning awaiting events clock (memory (entering_changes (entering_uses p r) q)))
   pub awaiting : q.awaiting ≡ p.awaiting
   pub spare : SameSpare p q
   pub others : q ≡ entering_changes p q

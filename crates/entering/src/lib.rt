@@ -5,7 +5,6 @@ ghost use Rattle.std.specs.Prelude.{◌≡◌};
 ghost use Rattle.numbers.specs.internal.Slots.{number_of};
 ghost use Rattle.sets.specs.Sets.{set_of};
 ghost use Rattle.creek.specs.Plan.{known_with};
-ghost use Rattle.replica.specs.Memory.{memory};
 ghost use Rattle.entering.specs.Entering.{EnterAsks, EnterKept};
 
 use replica::Panel;
@@ -13,8 +12,8 @@ use request::Request;
 
 // The request x, of that slot and place of the order, enters, and what is executed behind that place is to be rolled back.
 pub fn enter(p: &mut Panel, slot: u16, at: usize, x: &Request)
-    requires { EnterAsks (memory p.old) slot at x.now }
-    ensures { EnterKept p.old x.now p.new }
+    requires { EnterAsks p.old slot at x.now }
+    ensures { EnterKept p.old slot at x.now p.new }
 {
     ordering::insert_at(&mut p.order, p.ordered, at, slot);
     members::join_at(&mut p.held, slot);

@@ -5,8 +5,8 @@ ghost use Rattle.std.specs.Prelude.{◌≡◌, ◌+◌, ◌≤◌, length};
 ghost use Rattle.fields.specs.Widths.{weak_widths, size, decode};
 ghost use Rattle.fields.specs.Contents.{request_from};
 ghost use Rattle.creek.specs.Book.{deliver as deliver_call};
-ghost use Rattle.replica.specs.Memory.{memory, Done};
-ghost use Rattle.replica.specs.internal.Model.{Inv};
+ghost use Rattle.replica.specs.Uses.{hearing_uses};
+ghost use Rattle.replica.specs.Memory.{Asks, Done};
 ghost use Rattle.delivering.specs.Delivering.{heard_answer};
 ghost use Rattle.hearing.specs.Bytes.{context_size, context_in};
 
@@ -18,7 +18,7 @@ use sets::Context;
 // The request of that strength at a place is heard, with its context where it is strong.
 pub fn hear_at(p: &mut Panel, bytes: &[u8], at: usize, strong: bool) -> Result<(), Refusal>
     requires strong_in_bounds { at + size weak_widths + context_size strong ≤ length bytes.now }
-    requires inv { Inv (memory p.old) }
+    requires inv { Asks (hearing_uses p.old) }
     ensures { Done p.old (deliver_call (request_from (decode weak_widths bytes.now at) strong (context_in strong bytes.now at)))
         (heard_answer result) p.new }
 {

@@ -1,19 +1,24 @@
 -- The call that a message stands for is that of its kind, and what stands at a place is received by it or leaves the panel alone.
 use Prim.Native.Nat.{ℕ}
-use mathlib.Core.Path.{◌≡◌, refl}
+use mathlib.Core.Path.{◌≡◌, refl, sym, subst}
 use Rattle.numbers.specs.declared.Number.{Number}
 use Rattle.request.specs.Refusal.{accepted}
+use Rattle.creek.specs.declared.Answer.{Answer}
 use Rattle.creek.specs.declared.Reply.{Reply}
 use Rattle.creek.specs.Replies.{reply_answer}
 use Rattle.replica.specs.State.{State}
 use Rattle.replica.specs.declared.Panel.{Panel}
 use Rattle.replica.specs.Changes.{call_changes}
+use Rattle.replica.specs.Memory.{memory, Done}
 use Rattle.replica.specs.Promises.{Kept}
 use Rattle.replica.specs.internal.Model.{Inv}
 use Rattle.wire.specs.Layout.{kind_number}
+use Rattle.wire.specs.declared.Message.TheVariants.{Request as request, Settlement as settlement}
 use Rattle.wire.specs.Message.{BusMessage, kind_of, number_in}
-use Rattle.wire.specs.Reader.{Outcome, message, end, refused, taken_of}
-use Rattle.intake.specs.Intake.{call_of, answer_to, number_told, kind_told, received, is_taken_in, receiving_changes, nothing, Received}
+use Rattle.wire.specs.Reader.{Outcome, message, end, refused}
+use Rattle.intake.specs.declared.Receipt.{Receipt}
+use Rattle.intake.specs.Intake.{call_of, answer_to, number_told, kind_told, received, is_taken_in, nothing, Received}
+use Rattle.intake.specs.Intake.{receiving_uses, ReceiveKept}
 
 module _ {p : State} {o : Outcome} where
   pub receive-message : {q : State} {reply : Reply} {m : BusMessage} {n : ℕ} {number : Number} {kind : ℕ} → o ≡ message m n
@@ -55,14 +60,33 @@ module _ {p : State} {o : Outcome} where
     invariant = inv;
   }
 
--- what receiving does not change of a panel
-module _ {o : Outcome} (p : Panel) where
-  pub changed-message : {m : BusMessage} {n : ℕ} → o ≡ message m n → (q : Panel) → q ≡ call_changes (call_of m) p q
-      → q ≡ receiving_changes o p q
-  changed-message e q others = rw e others
+-- ---- on a panel in place
 
-  pub changed-end : o ≡ end → p ≡ receiving_changes o p p
-  changed-end e = rw e
+-- the call that a message stands for uses no more than receiving does
+call_kept : (m : BusMessage) {p q : Panel} {a : Answer} → Done p (call_of m) a q → (s : Panel) → Inv (memory (receiving_uses p s))
+    → Kept (memory (receiving_uses p s)) (call_of m)
+    (record { answer = a; state = memory (call_changes (call_of m) a (receiving_uses p s) q) })
+unfolding call_of
+call_kept (request x) {p} d s inv = d.kept (receiving_uses p s) inv
+call_kept (settlement n) {p} d s inv = d.kept (receiving_uses p s) inv
 
-  pub changed-refused : (w : ℕ) → o ≡ refused w → p ≡ receiving_changes o p p
-  changed-refused w e = rw e
+module _ {p : Panel} {o : Outcome} where
+  pub kept-message : {q : Panel} {reply : Reply} {m : BusMessage} {n : ℕ} {number : Number} {kind : ℕ} → o ≡ message m n
+      → number ≡ number_in m → kind ≡ kind_number (kind_of m) → Done p (call_of m) (reply_answer reply) q
+      → ReceiveKept p o (record { reply = reply; number = number; kind = kind; taken = n }) q
+  kept-message {m = m} e named numbered done = rw e record {
+    kept = λ s inv. receive-message refl named numbered (call_kept m done s inv);
+    spare = done.spare;
+    others = done.others;
+  }
+
+  pub kept-end : o ≡ end → ReceiveKept p o (nothing accepted) p
+  kept-end e = rw e record { kept = λ s inv. receive-end inv refl; spare = refl; others = refl }
+
+  pub kept-refused : (w : ℕ) → o ≡ refused w → ReceiveKept p o (nothing w) p
+  kept-refused w e = rw e record { kept = λ s inv. receive-refused inv w refl; spare = refl; others = refl }
+
+-- ---- of the panel itself, where it came from fresh and the calls
+
+pub received_here : (o : Outcome) {p q : Panel} {r : Receipt} → ReceiveKept p o r q → Inv (memory p) → Received (memory p) o r (memory q)
+received_here o {p} {q} {r} d inv = subst (λ (z : Panel). Received (memory p) o r (memory z)) (sym d.others) (d.kept p inv)

@@ -9,6 +9,7 @@ use Rattle.creek.specs.Replies.{done, refused_with, reply_answer, reply_in}
 use Rattle.replica.specs.State.{State}
 use Rattle.replica.specs.declared.Panel.{Panel}
 use Rattle.replica.specs.Changes.{call_changes}
+use Rattle.replica.specs.Memory.{memory, SameSpare}
 use Rattle.replica.specs.internal.Model.{model, book_of, Inv}
 use Rattle.wire.specs.Layout.{kind_number}
 use Rattle.wire.specs.declared.Message.TheVariants.{Request as request, Settlement as settlement}
@@ -53,12 +54,6 @@ is_taken_in b (message m n) = is_accepted b (call_of m)
 is_taken_in b end = false
 is_taken_in b (refused w) = false
 
--- what receiving it may change of a panel: p with what the call may change as q has it; what cannot be read changes nothing
-abbrev pub receiving_changes : Outcome → Panel → Panel → Panel
-receiving_changes (message m n) p q = call_changes (call_of m) p q
-receiving_changes end p q = p
-receiving_changes (refused w) p q = p
-
 -- p received it, and q is the state then
 pub record Received (p : State) (o : Outcome) (r : Receipt) (q : State) : Type 0 where
   -- which message it was, and its bytes, none where there is none
@@ -71,6 +66,44 @@ pub record Received (p : State) (o : Outcome) (r : Receipt) (q : State) : Type 0
   -- what is refused, by the reader or by the panel, leaves the very state
   pub unchanged : is_taken_in (book_of p) o ≡ false → q ≡ p
   pub invariant : Inv q
+
+-- ---- on a panel in place
+
+-- what receiving uses of a panel: another panel with those fields as p has them
+abbrev pub receiving_uses : Panel → Panel → Panel
+receiving_uses p r = record r {
+  committed = p.committed;
+  ordered = p.ordered;
+  executed = p.executed;
+  commits = p.commits;
+  panels = p.panels;
+  own = p.own;
+  held = p.held;
+  known = p.known;
+  awaiting = p.awaiting;
+  clocks = p.clocks;
+  askings = p.askings;
+  contexts = p.contexts;
+  order = p.order;
+  stack = p.stack;
+  responses = p.responses;
+  settled = p.settled;
+}
+
+-- what receiving it may change of a panel: p with what the call may change as q has it; what cannot be read changes nothing
+abbrev pub receiving_changes : Outcome → Answer → Panel → Panel → Panel
+receiving_changes (message m n) a p q = call_changes (call_of m) a p q
+receiving_changes end a p q = p
+receiving_changes (refused w) a p q = p
+
+-- p received it, and became q
+pub record ReceiveKept (p : Panel) (o : Outcome) (r : Receipt) (q : Panel) : Type 0 where
+  -- of every panel that came from fresh and the calls and has what receiving uses as p has it
+  pub kept : (s : Panel) → Inv (memory (receiving_uses p s))
+      → Received (memory (receiving_uses p s)) o r (memory (receiving_changes o (reply_answer r.reply) (receiving_uses p s) q))
+  pub spare : SameSpare p q
+  -- what receiving does not change is as it was
+  pub others : q ≡ receiving_changes o (reply_answer r.reply) p q
 
 -- the receipt where nothing was taken in, by that refusal
 abbrev pub nothing : ℕ → Receipt

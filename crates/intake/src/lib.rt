@@ -6,11 +6,10 @@
 ghost use Rattle.std.specs.Prelude.{◌≡◌};
 ghost use Rattle.request.specs.Refusal.{outcome_number};
 ghost use Rattle.creek.specs.Replies.{reply_answer};
-ghost use Rattle.replica.specs.Memory.{memory, SameSpare, Done};
-ghost use Rattle.replica.specs.internal.Model.{Inv};
+ghost use Rattle.replica.specs.Memory.{Asks, Done};
 ghost use Rattle.wire.specs.Reader.{read_at};
 ghost use Rattle.wire.specs.Head.{GoodHead, message_at};
-ghost use Rattle.intake.specs.Intake.{call_of, nothing, receiving_changes, Received};
+ghost use Rattle.intake.specs.Intake.{call_of, nothing, receiving_uses, ReceiveKept};
 
 use creek::Reply;
 use fields::reading;
@@ -32,9 +31,8 @@ pub struct Receipt {
 
 // The message at a place is heard or settled; what cannot be read leaves the panel alone.
 pub fn receive(p: &mut Panel, bytes: &[u8], at: usize) -> Receipt
-    requires { Inv (memory p.old) }
-    ensures { Received (memory p.old) (read_at bytes.now at) result (memory p.new)
-        × SameSpare p.old p.new × (p.new ≡ receiving_changes (read_at bytes.now at) p.old p.new) }
+    requires { Asks (receiving_uses p.old) }
+    ensures { ReceiveKept p.old (read_at bytes.now at) result p.new }
 {
     match wire::head_at(bytes, at) {
         Ok(Some(head)) => {
@@ -55,7 +53,7 @@ pub fn receive(p: &mut Panel, bytes: &[u8], at: usize) -> Receipt
 // The message of that kind, whose head stands at a place, is heard or settled.
 fn take_at(p: &mut Panel, bytes: &[u8], at: usize, kind: Kind) -> Reply
     requires good_head { GoodHead kind bytes.now at }
-    requires inv { Inv (memory p.old) }
+    requires inv { Asks (receiving_uses p.old) }
     ensures { Done p.old (call_of (message_at kind bytes.now at)) (reply_answer result) p.new }
 {
     match kind {

@@ -8,8 +8,8 @@ ghost use Rattle.request.specs.Refusal.{outcome_number};
 ghost use Rattle.ordering.specs.Slots.{Part};
 ghost use Rattle.creek.specs.Plan.{at_least};
 ghost use Rattle.creek.specs.Book.{invoke as invoke_call};
-ghost use Rattle.replica.specs.Memory.{memory, Done};
-ghost use Rattle.replica.specs.internal.Model.{Inv};
+ghost use Rattle.replica.specs.Uses.{making_uses};
+ghost use Rattle.replica.specs.Memory.{Asks, Done};
 ghost use Rattle.invoking.specs.Invoking.{InvokeRefused, context_without, request_for, made_answer};
 
 use creek::{Answer, Invocation, Mark};
@@ -22,7 +22,7 @@ use sets::Context;
 // A request is made: it enters as one that is heard does, awaits a reply, and is to be spread to the other panels. One made with a lower
 // clock takes the reading of the last own request.
 pub fn invoke(p: &mut Panel, i: Invocation) -> Result<Request, Refusal>
-    requires { Inv (memory p.old) }
+    requires { Asks (making_uses p.old) }
     ensures { Done p.old (invoke_call i) (made_answer result) p.new }
 {
     invoke_refusal(p.events, i)?;

@@ -1,5 +1,4 @@
 -- A panel in place, as the state that the contracts of the calls speak of: that of the replica which it is.
-use Rattle.std.specs.Prelude.{◌≡◌}
 use Rattle.replica.specs.State.{State}
 use Rattle.replica.specs.Memory as replica
 use Rattle.mizzencord.specs.declared.Panel.{Panel}

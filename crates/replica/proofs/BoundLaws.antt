@@ -1,9 +1,10 @@
--- Neither step counter of a panel passes the most steps, so that whoever counts its steps has room.
-use Prim.Native.Nat.{◌≤◌}
+-- Neither step counter of a panel passes the most steps, so that 32 bits hold it.
+use Prim.Native.Nat.{ℕ, ◌+◌, ◌≤◌, ◌%◌, ◌^◌}
 use native.Mathlib.Omega.{arith}
-use mathlib.Core.Path.{ap, ◌∙◌}
+use mathlib.Core.Path.{◌≡◌, ap, ◌∙◌}
 use lib.ListN.{length}
-use Rattle.counters.specs.Counted.{most_steps}
+use Rattle.counters.specs.declared.Counters.{Counters}
+use Rattle.counters.specs.Counted.{most_steps, undos_counted, undos_held, executions_counted, executions_held}
 use Rattle.creek.proofs.BoundLaws.{few_undos}
 use Rattle.creek.proofs.StackLaws.{stacked-board}
 use Rattle.replica.specs.State.{State}
@@ -25,3 +26,16 @@ module _ (q : State) (inv : Inv q) where
         ap length (stacked-board (board_of q) q.executed (order_of q)) ∙ length-board q inv,
         inv.counts,
       )
+
+-- ---- steps counted in 32 bits, where the count stays within the most steps
+
+module _ (c : Counters) (n : ℕ) where
+  pub undos_held_are : (undos_counted c n).undos ≤ most_steps → undos_counted c n ≡ undos_held c n
+  undos_held_are few =
+      let same : c.undos + n ≡ (c.undos + n) % 2 ^ 32 = omega (arith, few) in
+      λ i. record { undos = same i; executions = c.executions }
+
+  pub executions_held_are : (executions_counted c n).executions ≤ most_steps → executions_counted c n ≡ executions_held c n
+  executions_held_are few =
+      let same : c.executions + n ≡ (c.executions + n) % 2 ^ 32 = omega (arith, few) in
+      λ i. record { undos = c.undos; executions = same i }

@@ -9,8 +9,10 @@ use Rattle.numbers.specs.Numbers.{panel_no, clock_reading}
 use Rattle.sets.specs.Sets.{set_of}
 use Rattle.replica.specs.State.{State, Opened}
 use Rattle.replica.specs.Promises.{Kept}
+use Rattle.replica.specs.internal.Model.{Inv}
 use Rattle.replica.specs.declared.Shop.{Shop}
 use Rattle.replica.specs.declared.Panel.{Panel}
+use Rattle.replica.specs.Uses.{call_uses}
 use Rattle.replica.specs.Changes.{call_changes}
 
 abbrev pub memory : Panel → State
@@ -51,12 +53,19 @@ SameSpare p q = q.spare ≡ p.spare
 abbrev pub opened_by : Result Unit Refusal → Panel → Opened
 opened_by outcome p = record { refusal = outcome_number outcome; state = memory p }
 
+-- some panel that came from fresh and the calls has those parts
+pub record Asks (parts : Panel → Panel) : Type 0 where
+  pub panel : Panel
+  pub invariant : Inv (memory (parts panel))
+
 -- a call on p was answered and carried out as `creek` says, and p became q
 pub record Done (p : Panel) (c : Call) (a : Answer) (q : Panel) : Type 0 where
-  pub kept : Kept (memory p) c (record { answer = a; state = memory q })
+  -- of every panel that came from fresh and the calls and has what the call uses as p has it
+  pub kept : (r : Panel) → Inv (memory (call_uses c p r))
+      → Kept (memory (call_uses c p r)) c (record { answer = a; state = memory (call_changes c a (call_uses c p r) q) })
   pub spare : SameSpare p q
   -- what the call does not change is as it was
-  pub others : q ≡ call_changes c p q
+  pub others : q ≡ call_changes c a p q
 
 -- the shop that is opened where that one, bad or not, is asked for
 abbrev pub shop_opened : Bool → ℕ → PanelNo → Shop

@@ -6,7 +6,8 @@
 // list. By place on the board `saved` has what to roll back from and `responses` the response. So adjusting only lowers `executed`, an undo
 // takes the last off the stack, and an execution puts one on.
 //
-// A call is lent the panel and changes it in place; its contract holds of every panel that came from fresh and the calls. The loops, which
+// A call is lent the panel and changes it in place. It asks for what it uses of a panel that came from fresh and the calls, and its contract
+// holds of every such panel that has this (`Uses` of `specs/`); the other fields may hold anything, and stay as they are. The loops, which
 // are in the crates below, are lent the fields that they use, no others.
 //
 // Fresh is here, the showing calls in `showing`; invoke is the crate `invoking`, deliver `delivering`, commit `committing`, undo and

@@ -9,8 +9,8 @@ ghost use Rattle.slots.specs.Marks.{Marked};
 ghost use Rattle.request.specs.Refusal.{accepted, waits};
 ghost use Rattle.creek.specs.Book.{commit};
 ghost use Rattle.creek.specs.Replies.{reply_answer, refused_with};
-ghost use Rattle.replica.specs.Memory.{memory, Done};
-ghost use Rattle.replica.specs.internal.Model.{Inv};
+ghost use Rattle.replica.specs.Uses.{settling_uses};
+ghost use Rattle.replica.specs.Memory.{Asks, Done};
 ghost use Rattle.settling.specs.Settling.{early_refusal, missing_number, agreed, settled_answer, MarkAsks};
 
 use creek::{Mark, Reply};
@@ -21,7 +21,7 @@ use sets::Context;
 
 // The request of number n, which no test without its context refuses, is settled or waits.
 pub fn settle(p: &mut Panel, n: Number) -> Reply
-    requires inv { Inv (memory p.old) }
+    requires inv { Asks (settling_uses p.old) }
     requires not_refused { early_refusal p.old.panels (set_of p.old.held) (set_of p.old.known) p.old.askings n ≡ accepted }
     ensures { Done p.old (commit n) (reply_answer result) p.new }
 {

@@ -5,9 +5,8 @@
 
 ghost use Rattle.std.specs.Prelude.{◌≡◌, ◌==◌, take, position};
 ghost use Rattle.request.specs.Refusal.{number_of};
-ghost use Rattle.replica.specs.Memory.{memory};
-ghost use Rattle.replica.specs.internal.Model.{Inv};
-ghost use Rattle.status.specs.Status.{StatusShown};
+ghost use Rattle.replica.specs.Memory.{Asks};
+ghost use Rattle.status.specs.Status.{status_uses, StatusKept};
 ghost use Rattle.status.specs.internal.Place.{stand_before, refused_status, BeforeAsks};
 
 use numbers::Number;
@@ -28,8 +27,8 @@ pub struct RequestStatus {
 
 // The status of the request of number n.
 pub fn request_status(p: &Panel, n: Number) -> RequestStatus
-    requires { Inv (memory p.now) }
-    ensures { StatusShown (memory p.now) n result }
+    requires { Asks (status_uses p.now) }
+    ensures { StatusKept p.now n result }
 {
     if numbers::bad(p.panels, n) {
         return refusing(Refusal::BadNumber);

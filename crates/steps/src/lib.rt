@@ -5,8 +5,8 @@
 
 ghost use Rattle.creek.specs.Book.{undo as undo_call, execute as execute_call};
 ghost use Rattle.creek.specs.Replies.{reply_answer};
-ghost use Rattle.replica.specs.Memory.{memory, Done};
-ghost use Rattle.replica.specs.internal.Model.{Inv};
+ghost use Rattle.replica.specs.Uses.{undoing_uses, stepping_uses};
+ghost use Rattle.replica.specs.Memory.{Asks, Done};
 
 use creek::{Mark, Reply};
 use replica::Panel;
@@ -14,7 +14,7 @@ use request::refusal::{self, Refusal};
 
 // Undo one step: the first of the rollback list leaves the board, and its registers take their former values.
 pub fn undo(p: &mut Panel) -> Reply
-    requires { Inv (memory p.old) }
+    requires { Asks (undoing_uses p.old) }
     ensures { Done p.old undo_call (reply_answer result) p.new }
 {
     if p.executed == p.stacked {
@@ -34,7 +34,7 @@ pub fn undo(p: &mut Panel) -> Reply
 
 // Carry out one step: the first of the to-do list is executed and joins the executed list.
 pub fn execute(p: &mut Panel) -> Reply
-    requires { Inv (memory p.old) }
+    requires { Asks (stepping_uses p.old) }
     ensures { Done p.old execute_call (reply_answer result) p.new }
 {
     let at = p.executed;

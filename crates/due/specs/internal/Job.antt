@@ -2,9 +2,16 @@
 use Rattle.std.specs.Prelude.{ℕ, ◌-◌, ◌≡◌, true, length}
 use Rattle.creek.specs.Execution.{is_idle}
 use Rattle.creek.specs.History.{idled}
+use Rattle.counters.specs.declared.Counters.{Counters}
+use Rattle.counters.specs.Counted.{undos_counted, undos_held, executions_counted, executions_held}
 use Rattle.replica.specs.State.{State}
+use Rattle.replica.specs.declared.Panel.{Panel}
+use Rattle.replica.specs.Uses.{stepping_uses}
+use Rattle.replica.specs.Changes.{stepping_changes}
+use Rattle.replica.specs.Memory.{memory}
 use Rattle.replica.specs.internal.Model.{model, Inv}
-use Rattle.due.specs.Due.{DueOutcome, replies_owed, padded}
+use Rattle.due.specs.declared.DueSteps.{DueSteps}
+use Rattle.due.specs.Due.{DueOutcome, ran, replies_owed, padded}
 
 -- the job from q on is the job from p on: as many due steps as are owed lead to one replica, with the same replies
 pub record SameJob (p q : State) : Type 0 where
@@ -28,3 +35,26 @@ pub record ExecutedAll (p : State) (undos : ℕ) (r : DueOutcome) : Type 0 where
   pub replies : r.replies ≡ padded (replies_owed p)
   pub idle : is_idle (model r.state).book.execution ≡ true
   pub invariant : Inv r.state
+
+-- ---- on a panel in place
+
+-- p with that left on the board and those registers as q has them, and those counters
+abbrev pub rolled_by : Counters → Panel → Panel → Panel
+rolled_by counters p q = record p { stacked = q.stacked; registers = q.registers; counters = counters }
+
+-- p was rolled back, and became q: of every panel with what the steps use as p has it, all undos that were due counted
+pub record RolledKept (p q : Panel) : Type 0 where
+  pub kept : (o : Panel) → Inv (memory (stepping_uses p o)) → RolledBack (memory (stepping_uses p o))
+      (memory (rolled_by (undos_counted o.counters (p.stacked - p.executed)) (stepping_uses p o) q))
+  pub others : q ≡ rolled_by (undos_held p.counters (p.stacked - p.executed)) p q
+
+-- p with what executions change as q has it, and those counters
+abbrev pub executed_by : Counters → Panel → Panel → Panel
+executed_by counters p q = record (stepping_changes p q) { counters = counters }
+
+-- what was to do on p was executed, and p became q: of every such panel, all executions that were due counted
+pub record ExecutedKept (p : Panel) (undos : ℕ) (r : DueSteps) (q : Panel) : Type 0 where
+  pub kept : (o : Panel) → Inv (memory (stepping_uses p o)) → ExecutedAll (memory (stepping_uses p o)) undos
+      (ran r (memory (executed_by (executions_counted o.counters r.executions) (stepping_uses p o) q)))
+  pub handed : r.undos ≡ undos
+  pub others : q ≡ executed_by (executions_held p.counters r.executions) p q

@@ -5,14 +5,14 @@ use Rattle.text.specs.Written.{Written}
 use Rattle.numbers.specs.Numbers.{no_number}
 use Rattle.request.specs.Refusal as refused
 use Rattle.creek.specs.declared.Answer.{Answer}
-use Rattle.creek.specs.Book.{Call, undo, execute}
+use Rattle.creek.specs.Book.{Call, invoke, deliver, commit, undo, execute}
 use Rattle.creek.specs.Calls.{Replica}
 use Rattle.creek.specs.History.{run, due_calls}
 use Rattle.creek.specs.Showing.{owed_shown}
 use Rattle.creek.specs.Replies.{refused_with, reply_answer}
 use Rattle.replica.specs.State.{State, Called}
 use Rattle.replica.specs.declared.Panel.{Panel}
-use Rattle.replica.specs.Changes.{call_changes, stepping_changes}
+use Rattle.replica.specs.Changes.{entering_changes, making_changes, settling_changes, undoing_changes, stepping_changes}
 use Rattle.replica.specs.internal.Model.{Inv, model}
 use Rattle.intake.specs.declared.Receipt.{Receipt}
 use Rattle.encoding.specs.declared.calls.Step.{Step}
@@ -37,10 +37,18 @@ pub record EntryPut (p : State) (x : Entry) (out : List ℕ) (q : State) (out' :
   pub state : model q ≡ after (model p) x
   pub invariant : Inv q
 
+-- what a call of an entry may change of a panel, the counters too where it is a step: p with that as q has it
+abbrev pub called_changes : Call → Panel → Panel → Panel
+called_changes (invoke i) p q = making_changes p q
+called_changes (deliver x) p q = entering_changes p q
+called_changes (commit n) p q = settling_changes p q
+called_changes undo p q = record (undoing_changes p q) { counters = q.counters }
+called_changes execute p q = record (stepping_changes p q) { counters = q.counters }
+
 -- what carrying out the entry may change of a panel: p with that as q has it
 abbrev pub entry_changes : Entry → Panel → Panel → Panel
-entry_changes (one c) p q = call_changes c p q
-entry_changes all_due p q = stepping_changes p q
+entry_changes (one c) p q = called_changes c p q
+entry_changes all_due p q = record (stepping_changes p q) { counters = q.counters }
 
 -- the step of that tag, where it is one's
 abbrev pub step_with : ℕ → Option Step

@@ -1,5 +1,6 @@
 -- `entering::enter` meets its contract.
 use mathlib.Core.Path.{refl}
+use Rattle.replica.specs.Uses.{entering_uses}
 use Rattle.replica.specs.Memory.{memory}
 use Rattle.entering.proofs.EnteringLaws.{slot_is, insertion_asks, entered_by}
 use Rattle.entering.proofs.enter.Goals as goal
@@ -14,14 +15,11 @@ put_request-requires c =
 
 pub returns : goal.returns
 returns c =
-    let asks = c.requires in
-    let entered =
-    entered_by (memory c.args.p.now) c.args.x.now asks.invariant asks.enters
-    c.args.slot c.args.at asks.its_slot asks.its_place c.insert_at.new.xs c.insert_at.ensures c.put_request.ensures c.join_at.ensures
-    c.know.ensures c.min-p.ensures in
     record {
-      heard = entered _ _ _;
-      made = entered;
+      kept = λ r inv enters place awaiting events clock.
+          entered_by (memory (entering_uses c.args.p.now r)) c.args.x.now inv enters c.args.slot c.args.at c.requires.its_slot place
+          c.insert_at.new.xs c.insert_at.ensures c.put_request.ensures c.join_at.ensures c.know.ensures c.min-p.ensures
+          awaiting events clock;
       awaiting = refl;
       spare = refl;
       others = refl;

@@ -1,13 +1,13 @@
 -- `receive` meets its contract, by what the head answers.
 use native.Mathlib.Omega.{arith}
-use mathlib.Core.Path.{◌≡◌, refl, sym, ap, ◌∙◌}
+use mathlib.Core.Path.{◌≡◌, sym, ap, ◌∙◌}
 use Rattle.wire.specs.Layout.{kind_number}
 use Rattle.wire.specs.Reader.{message, read_at}
 use Rattle.wire.specs.Head.{message_at}
 use Rattle.wire.proofs.KindLaws.{kind_laws}
 use Rattle.wire.proofs.HeadLaws.{good_head, good_reads, end_reads, refused_reads}
 use Rattle.wire.proofs.RoundTrip.{taken_least, taken_longest, taken_inside, number-told}
-use Rattle.intake.proofs.IntakeLaws.{receive-message, receive-end, receive-refused, changed-message, changed-end, changed-refused}
+use Rattle.intake.proofs.IntakeLaws.{kept-message, kept-end, kept-refused}
 use Rattle.intake.proofs.receive.Goals as goal
 use Rattle.intake.proofs.receive.Goals.{In-Ok-Some}
 
@@ -28,19 +28,11 @@ overflow_cast-result c = omega (arith, taken_longest _ _ _ _ (reads (goal.at.ove
 pub returns-in-Ok-Some : goal.returns-in-Ok-Some
 returns-in-Ok-Some c =
     let told = reads (goal.at.returns-in-Ok-Some c).In-Ok-Some in
-    let reply = c.take_at-reply.ensures in (
-      receive-message told (c.number_at-number.ensures ∙ sym (number-told _ _ _ _ told))
-          (c.from.ensures ∙ ap kind_number (sym ((kind_laws _).kind_kept _))) reply.kept,
-      reply.spare,
-      changed-message _ told _ reply.others,
-    )
+    kept-message told (c.number_at-number.ensures ∙ sym (number-told _ _ _ _ told))
+    (c.from.ensures ∙ ap kind_number (sym ((kind_laws _).kind_kept _))) c.take_at-reply.ensures
 
 pub returns-in-Ok-None : goal.returns-in-Ok-None
-returns-in-Ok-None c =
-    let told = end_reads _ _ (rw c.in-Ok-None.field-0-is at c.in-Ok-None.ensures) in
-    (rw c.untaken.ensures (receive-end c.requires told), refl, changed-end _ told)
+returns-in-Ok-None c = rw c.untaken.ensures (kept-end (end_reads _ _ (rw c.in-Ok-None.field-0-is at c.in-Ok-None.ensures)))
 
 pub returns-in-Err : goal.returns-in-Err
-returns-in-Err c =
-    let told = refused_reads _ _ _ c.in-Err.ensures in
-    (rw c.untaken-in-Err.ensures (receive-refused c.requires _ told), refl, changed-refused _ _ told)
+returns-in-Err c = rw c.untaken-in-Err.ensures (kept-refused _ (refused_reads _ _ _ c.in-Err.ensures))

@@ -6,7 +6,9 @@ use Rattle.wire.specs.declared.Kind.{Kind}
 use Rattle.wire.specs.declared.Kind.TheVariants.{Weak, Strong, Settlement}
 use Rattle.wire.specs.Head.{GoodHead}
 use Rattle.wire.proofs.HeadLaws.{weak_inside, strong_inside, settlement_inside, weak-message, strong-message, settlement-message}
-use Rattle.intake.specs.Intake.{call_of}
+use Rattle.replica.specs.Uses.{hearing_uses}
+use Rattle.replica.specs.Memory.{Asks}
+use Rattle.intake.specs.Intake.{call_of, receiving_uses}
 use Rattle.intake.proofs.take_at.Goals as goal
 use Rattle.intake.proofs.take_at.Goals.{Start}
 
@@ -21,6 +23,21 @@ hear_at-requires-clause-strong_in_bounds c =
 pub hear_at-requires-in-Strong-clause-strong_in_bounds : goal.hear_at-requires-in-Strong-clause-strong_in_bounds
 hear_at-requires-in-Strong-clause-strong_in_bounds c =
     omega (arith, strong_inside _ _ (good (goal.at.hear_at-requires-in-Strong-clause-strong_in_bounds c).Start Strong c.in-Strong.is))
+
+-- a call asks for no more than receiving does
+asked : (a : Start) → Asks (hearing_uses a.args.p.now)
+asked a = record { panel = receiving_uses a.args.p.now a.requires.inv.panel; invariant = a.requires.inv.invariant }
+
+pub hear_at-requires-clause-inv : goal.hear_at-requires-clause-inv
+hear_at-requires-clause-inv c = asked (goal.at.hear_at-requires-clause-inv c).Start
+
+pub hear_at-requires-in-Strong-clause-inv : goal.hear_at-requires-in-Strong-clause-inv
+hear_at-requires-in-Strong-clause-inv c = asked (goal.at.hear_at-requires-in-Strong-clause-inv c).Start
+
+pub commit-requires : goal.commit-requires
+commit-requires c =
+    let inv = c.requires.inv in
+    record { panel = receiving_uses c.args.p.now inv.panel; invariant = inv.invariant }
 
 pub number_at-requires : goal.number_at-requires
 number_at-requires c = settlement_inside _ _ (good (goal.at.number_at-requires c).Start Settlement c.in-Settlement.is)

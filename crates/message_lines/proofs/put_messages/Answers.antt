@@ -1,5 +1,5 @@
 -- `put_messages` meets its contract.
-use Prim.Native.Nat.{◌+◌, ◌-◌, ◌≤◌, ◌<◌, ◌^◌}
+use Prim.Native.Nat.{◌+◌, ◌≤◌, ◌<◌, ◌^◌}
 use native.Mathlib.Omega.{arith}
 use mathlib.Core.Path.{refl, ◌∙◌}
 use lib.ListN.{length}
@@ -8,8 +8,12 @@ use Rattle.text.proofs.WrittenLaws.{mid_long}
 use Rattle.report.specs.Sizes.{most_message_bytes}
 use Rattle.report.proofs.SizeLaws.{unread_short}
 use Rattle.wire.specs.Layout.{least_message}
+use Rattle.wire.specs.Reader.{read_at}
+use Rattle.replica.specs.Memory.{memory}
+use Rattle.intake.specs.Intake.{Received}
+use Rattle.intake.proofs.IntakeLaws.{received_here}
 use Rattle.printed.specs.Printout.{most_input}
-use Rattle.message_lines.proofs.LoopLaws.{Putting, put_start, line_room, put_last, within, put_step, put-end}
+use Rattle.message_lines.proofs.LoopLaws.{put_start, line_room, put_last, within, put_step, put-end}
 use Rattle.message_lines.proofs.put_messages.Goals as goal
 use Rattle.message_lines.proofs.put_messages.Goals.{After-receive-receipt, Else-taken-eq0, In-loop-at}
 
@@ -19,7 +23,12 @@ loop-at-init c = (put_start _ _ _ c.requires.inv c.requires.shop_bytes_in_bounds
 -- ---- the turn
 
 pub receive-receipt-requires : goal.receive-receipt-requires
-receive-receipt-requires c = c.loop-at.invariant.0.invariant
+receive-receipt-requires c = record { panel = c.loop-at.p; invariant = c.loop-at.invariant.0.invariant }
+
+-- what receiving the message did
+got : (c : After-receive-receipt) → let l = c.loop-at in
+    Received (memory l.p) (read_at c.args.input.now l.at) c.receive-receipt.result (memory c.receive-receipt.new.p)
+got c = received_here _ c.receive-receipt.ensures c.loop-at.invariant.0.invariant
 
 -- there is room for a line, and its place is one of few
 room : (c : In-loop-at) → let l = c.loop-at in
@@ -43,9 +52,9 @@ put_unread-requires c =
 pub returns-then-taken-eq0 : goal.returns-then-taken-eq0
 returns-then-taken-eq0 c =
     let put = c.loop-at.invariant in (
-      put_last put.0 c.loop-at-test.true c.receive-receipt.ensures.0 c.if-taken-eq0.true c.requires.input_len_bound
+      put_last put.0 c.loop-at-test.true (got (goal.at.returns-then-taken-eq0 c).After-receive-receipt) c.if-taken-eq0.true c.requires.input_len_bound
           (small (goal.at.returns-then-taken-eq0 c).After-receive-receipt) c.requires.most_message_bytes_in_bounds c.put_unread.ensures,
-      c.receive-receipt.ensures.1 ∙ put.1,
+      c.receive-receipt.ensures.spare ∙ put.1,
     )
 
 -- ---- a message
@@ -58,10 +67,10 @@ inside : (c : Else-taken-eq0) →
     (at + least_message ≤ size) × (least_message ≤ n) × (at + n ≤ size)
 inside c =
     let put = c.loop-at.invariant.0 in
-    within put c.loop-at-test.true c.receive-receipt.ensures.0 c.if-taken-eq0.false
+    within put c.loop-at-test.true (received_here _ c.receive-receipt.ensures put.invariant) c.if-taken-eq0.false
 
 pub idle-undone-requires : goal.idle-undone-requires
-idle-undone-requires c = c.receive-receipt.ensures.0.invariant
+idle-undone-requires c = (got (goal.at.idle-undone-requires c).After-receive-receipt).invariant
 
 pub put_line-behind-requires : goal.put_line-behind-requires
 put_line-behind-requires c =
@@ -81,9 +90,9 @@ loop-at-smaller c =
 
 pub loop-at-preserved : goal.loop-at-preserved
 loop-at-preserved c = (
-  put_step c.loop-at.invariant.0 c.loop-at-test.true c.receive-receipt.ensures.0 c.if-taken-eq0.false c.idle-undone.ensures.0
+  put_step c.loop-at.invariant.0 c.loop-at-test.true (got (goal.at.loop-at-preserved c).After-receive-receipt) c.if-taken-eq0.false c.idle-undone.ensures.0
       (room (goal.at.loop-at-preserved c).In-loop-at).0 c.put_line-behind.ensures,
-  c.idle-undone.ensures.1 ∙ c.receive-receipt.ensures.1 ∙ c.loop-at.invariant.1,
+  c.idle-undone.ensures.1 ∙ c.receive-receipt.ensures.spare ∙ c.loop-at.invariant.1,
 )
 
 -- ---- the end

@@ -3,4 +3,4 @@ use Rattle.replica.proofs.ShowingLaws.{made_are}
 use Rattle.replica.proofs.Panel.made.Goals as goal
 
 pub returns : goal.returns
-returns c = λ inv. made_are _ inv
+returns c = record { shown = λ p inv. made_are _ inv }

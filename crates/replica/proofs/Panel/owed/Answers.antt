@@ -3,4 +3,4 @@ use Rattle.replica.proofs.ShowingLaws.{owed_are}
 use Rattle.replica.proofs.Panel.owed.Goals as goal
 
 pub returns : goal.returns
-returns c = owed_are _ c.requires
+returns c = record { shown = λ p inv. owed_are _ inv }

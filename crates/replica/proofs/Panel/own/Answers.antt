@@ -3,4 +3,4 @@ use Rattle.replica.proofs.ShowingLaws.{own_is}
 use Rattle.replica.proofs.Panel.own.Goals as goal
 
 pub returns : goal.returns
-returns c = λ inv. own_is _ inv
+returns c = record { shown = λ p inv. own_is _ inv }

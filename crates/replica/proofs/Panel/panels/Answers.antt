@@ -3,4 +3,4 @@ use Rattle.replica.proofs.ShowingLaws.{panels_are}
 use Rattle.replica.proofs.Panel.panels.Goals as goal
 
 pub returns : goal.returns
-returns c = λ inv. panels_are _ inv
+returns c = record { shown = λ p inv. panels_are _ inv }

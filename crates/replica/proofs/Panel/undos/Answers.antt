@@ -5,4 +5,4 @@ use Rattle.replica.proofs.Panel.undos.Goals as goal
 
 pub returns : goal.returns
 unfolding model
-returns c = λ inv. refl
+returns c = record { shown = λ p inv. refl }
