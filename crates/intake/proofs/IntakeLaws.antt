@@ -86,6 +86,27 @@ module _ {p : Panel} {o : Outcome} where
   pub kept-refused : (w : ℕ) → o ≡ refused w → ReceiveKept p o (nothing w) p
   kept-refused w e = rw e record { kept = λ s inv. receive-refused inv w refl; spare = refl; others = refl }
 
+-- receiving goes by the fields that it uses alone: q is any panel with these as p has them
+pub receives_by : (p q r : Panel) → receiving_uses (record q {
+  committed = p.committed;
+  ordered = p.ordered;
+  executed = p.executed;
+  commits = p.commits;
+  panels = p.panels;
+  own = p.own;
+  held = p.held;
+  known = p.known;
+  awaiting = p.awaiting;
+  clocks = p.clocks;
+  askings = p.askings;
+  contexts = p.contexts;
+  order = p.order;
+  stack = p.stack;
+  responses = p.responses;
+  settled = p.settled;
+}) r ≡ receiving_uses p r
+receives_by p q r = refl
+
 -- ---- of the panel itself, where it came from fresh and the calls
 
 pub received_here : (o : Outcome) {p q : Panel} {r : Receipt} → ReceiveKept p o r q → Inv (memory p) → Received (memory p) o r (memory q)

@@ -9,3 +9,4 @@ pub mod FreshLaws
 pub mod BoundLaws
 pub mod ShowingLaws
 pub mod ChangesLaws
+pub mod UsesLaws

@@ -31,10 +31,11 @@ use Rattle.creek.specs.Replies.{response_in}
 use Rattle.creek.specs.Status.{status_refusal, status_place, status_settled, status_awaited, status_executed, status_response}
 use Rattle.creek.proofs.HeldLaws.{widened}
 use Rattle.replica.specs.State.{State}
+use Rattle.replica.specs.declared.Panel.{Panel}
 use Rattle.replica.specs.internal.Model.{order_slots, order_of, board_of, plan_of, book_of, model, operation_at, registers_before, Inv}
 use Rattle.replica.proofs.ModelLaws.{plan_sound, request_of, length-order, length-board, order-planned, executed_start, order_distinct}
 use Rattle.replica.proofs.RequestLaws.{by_slot, count_held}
-use Rattle.status.specs.Status.{StatusShown}
+use Rattle.status.specs.Status.{StatusShown, status_uses}
 use Rattle.status.specs.internal.Place.{stand_before, refused_status}
 use Rattle.status.proofs.LeadingLaws.{first, first_inside, first_passes, first_start, response_first}
 
@@ -171,3 +172,16 @@ module _ (p : State) (inv : Inv p) (n : Number) where
                 let done : behind < p.executed = omega (arith, place_found, ltb-true k p.executed e) in
                 r ∙ ap (λ (j : ℕ). get_or p.responses j 0) place_found ∙ sym (response_is done)
             go false e r = rw (sym executed-found ∙ e) r
+
+-- a status goes by the fields that it uses alone: q is any panel with these as p has them
+pub status_by : (p q r : Panel) → status_uses (record q {
+  committed = p.committed;
+  ordered = p.ordered;
+  executed = p.executed;
+  panels = p.panels;
+  held = p.held;
+  awaiting = p.awaiting;
+  order = p.order;
+  responses = p.responses;
+}) r ≡ status_uses p r
+status_by p q r = refl
