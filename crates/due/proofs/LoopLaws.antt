@@ -253,6 +253,16 @@ module _ {p q : Panel} {replies : List Reply} {n at : ℕ} (h : ExecutingTo p q 
             (counted ∙ ap (λ (y : Panel). executions_held y.counters (p.ordered - p.executed)) h.others);
       }
 
+-- ---- a panel's counters have room for the steps
+
+pub roll_counts : {p q : Panel} → RolledKept p q → (o : Panel) → Inv (memory (stepping_uses p o))
+    → o.counters.undos + (p.stacked - p.executed) ≤ most_steps
+roll_counts back o inv = undos_fit _ (back.kept o inv).invariant
+
+pub execute_counts : {p q : Panel} {undos : ℕ} {r : DueSteps} → ExecutedKept p undos r q → (o : Panel) → Inv (memory (stepping_uses p o))
+    → o.counters.executions + r.executions ≤ most_steps
+execute_counts all o inv = executions_fit _ (all.kept o inv).invariant
+
 -- ---- both
 
 -- counted in 32 bits, it is the same state where it has the invariant
@@ -272,13 +282,17 @@ module _ {p q : Panel} (back : RolledKept p q) where
     counters = undos_held p.counters (p.stacked - p.executed);
   }
 
+  -- another panel with the undos counted
+  abbrev undone_in : Panel → Panel
+  undone_in o = record o { counters = undos_counted o.counters (p.stacked - p.executed) }
+
   pub nothing_left : (o : Panel) → Inv (memory (stepping_uses p o)) → q.executed ≡ q.stacked
   nothing_left o inv = ap (λ (y : Panel). y.executed) back.others ∙ (back.kept o inv).nothing
 
   pub still_asked : (o : Panel) → Inv (memory (stepping_uses p o)) → Asks (stepping_uses q)
   still_asked o inv =
       subst (λ (y : Panel). Asks (stepping_uses y)) (sym back.others)
-      (record { panel = record o { counters = undos_counted o.counters (p.stacked - p.executed) }; invariant = (back.kept o inv).invariant })
+      (record { panel = undone_in o; invariant = (back.kept o inv).invariant })
 
   module _ {z : Panel} {undos : ℕ} {r : DueSteps} (is : undos ≡ p.stacked - p.executed) (all : ExecutedKept q undos r z) where
     executed : ExecutedKept rolled undos r z
@@ -293,7 +307,7 @@ module _ {p q : Panel} (back : RolledKept p q) where
     due_done o inv =
         let s = memory (stepping_uses p o) in
         let rolled_back = back.kept o inv in
-        let here : Panel = record o { counters = undos_counted o.counters (p.stacked - p.executed) } in
+        let here = undone_in o in
         subst (λ (n : ℕ). RunDue s (ran r (memory (executed_by (counted o.counters n r.executions) (stepping_uses p o) z))))
         undos_are
         (run_through s _ _ inv rolled_back
@@ -304,9 +318,10 @@ module _ {p q : Panel} (back : RolledKept p q) where
     pub all_due_is : DueKept p r z
     all_due_is = record {
       kept = λ o inv.
-          let done = due_done o inv in
+          let few = subst (λ (n : ℕ). o.counters.undos + n ≤ most_steps) undos_are (roll_counts back o inv) in
+          let fewer = execute_counts executed (undone_in o) (back.kept o inv).invariant in
           subst (λ (c : Counters). RunDue (memory (stepping_uses p o)) (ran r (memory (executed_by c (stepping_uses p o) z))))
-          (steps_held o.counters r.undos r.executions (undos_fit _ done.invariant) (executions_fit _ done.invariant)) done;
+          (steps_held o.counters r.undos r.executions few fewer) (due_done o inv);
       spare = ap (λ (y : Panel). y.spare) executed.others;
       others =
           subst (λ (n : ℕ). z ≡ executed_by (executions_held (undos_held p.counters n) r.executions) p z) undos_are executed.others;

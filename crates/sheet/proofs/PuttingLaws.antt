@@ -12,7 +12,7 @@ use borrow.Rule.Slice.PartMut.{mid_of, put_mid}
 use Rattle.text.specs.Written.{Written}
 use Rattle.text.proofs.WrittenLaws.{then}
 use Rattle.report.specs.Lines.{board_line, refused_line, totals_line, register_lines}
-use Rattle.creek.specs.Calls.{Replica, bad_shop, fresh}
+use Rattle.creek.specs.Calls.{Replica, bad_shop, fresh_refusal, fresh}
 use Rattle.creek.specs.Showing.{undos_shown, executions_shown}
 use Rattle.replica.specs.State.{State}
 use Rattle.replica.specs.internal.Model.{model, Inv}
@@ -68,6 +68,27 @@ printout_good : (s : List ℕ) → shop_bytes ≤ length s → bad_shop (get_or 
     ++ closing (after_all (fresh (get_or s 0 0) (get_or s 1 0)) (found_from s shop_bytes)))
 unfolding printout printout_of
 printout_good s h e = rw (le-ltb (length s) shop_bytes h, e)
+
+-- by the number of fresh's outcome
+fresh_by : (panels own w : ℕ) (v : Bool) → bad_shop panels own ≡ v → w ≡ fresh_refusal panels own → (w ≡ refused_by.accepted → ⊥)
+    → (v ≡ true) × (w ≡ refused_by.bad_shop)
+unfolding fresh_refusal
+fresh_by panels own w true e f h = (refl, f ∙ rw e)
+fresh_by panels own w false e f h = absurd (h (f ∙ rw e))
+
+pub fresh_bad : (panels own w : ℕ) → w ≡ fresh_refusal panels own → (w ≡ refused_by.accepted → ⊥)
+    → (bad_shop panels own ≡ true) × (w ≡ refused_by.bad_shop)
+fresh_bad panels own w f h = fresh_by panels own w (bad_shop panels own) refl f h
+
+opened_by_lem : (panels own : ℕ) (v : Bool) → bad_shop panels own ≡ v → refused_by.accepted ≡ fresh_refusal panels own → v ≡ false
+unfolding fresh_refusal
+opened_by_lem panels own true e f =
+    let bad : fresh_refusal panels own ≡ refused_by.bad_shop = rw e in
+    absurd (omega (arith, f, bad))
+opened_by_lem panels own false e f = refl
+
+pub fresh_good : (panels own : ℕ) → refused_by.accepted ≡ fresh_refusal panels own → bad_shop panels own ≡ false
+fresh_good panels own f = opened_by_lem panels own (bad_shop panels own) refl f
 
 -- the lines of a shift, from those of its messages and the closing lines
 pub shift_put : {s out out₁ new : List ℕ} {at n : ℕ} {p q : State} → AllPut p s out q out₁ at

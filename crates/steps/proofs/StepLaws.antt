@@ -1,5 +1,5 @@
 -- The two steps on a panel in place: what a refused and an accepted one lead to there.
-use Prim.Native.Nat.{ℕ, ◌+◌, ◌-◌, ◌<◌}
+use Prim.Native.Nat.{ℕ, ◌+◌, ◌-◌, ◌≤◌, ◌<◌}
 use native.Mathlib.Omega.{arith}
 use mathlib.Core.Path.{◌≡◌, refl, sym, ap, subst, ◌∙◌}
 use mathlib.Core.Bool.{false}
@@ -8,7 +8,7 @@ use lib.Dec.{eqb}
 use borrow.Author.Tests.{eqb-false}
 use Rattle.sets.specs.Sets.{set_of}
 use Rattle.counters.specs.declared.Counters.{Counters}
-use Rattle.counters.specs.Counted.{undos_counted, undos_held, executions_counted, executions_held}
+use Rattle.counters.specs.Counted.{most_steps, undos_counted, undos_held, executions_counted, executions_held}
 use Rattle.numbers.specs.declared.Number.{Number}
 use Rattle.numbers.specs.Numbers.{no_number}
 use Rattle.numbers.specs.internal.Slots.{number_of}
@@ -63,13 +63,17 @@ module _ (p : Panel) where
           (undo-kept s inv due (rolled_back p (p.stacked - 1)) refl (undos_counted o.counters 1) _ refl
           (ap (λ (m : Number). reply m 0 no_mark) (is ∙ ap number_of off.slot)))
 
+      -- a panel's counter has room for the undo
+      pub undo_counts : (o : Panel) → Inv (memory (undoing_uses p o)) → o.counters.undos + 1 ≤ most_steps
+      undo_counts o inv = undos_fit _ (undo_keeps o inv).invariant
+
       pub undo-done : (counters : Counters) → counters ≡ undos_held q.counters 1
           → Done p undo (reply n 0 no_mark) (record q { stacked = p.stacked - 1; counters = counters })
       undo-done counters counted = record {
         kept = λ o inv.
             let s = memory (undoing_uses p o) in
             subst (λ (c : Counters). Kept s undo (record { answer = reply n 0 no_mark; state = undone_state s q.registers c }))
-            (undos_held_are o.counters 1 (undos_fit _ (undo_keeps o inv).invariant)) (undo_keeps o inv);
+            (undos_held_are o.counters 1 (undo_counts o inv)) (undo_keeps o inv);
         spare = ap (λ (r : Panel). r.spare) off.panel;
         others =
             ap (λ (r : Panel). record r { stacked = p.stacked - 1; counters = counters })
@@ -138,6 +142,10 @@ module _ (p : Panel) where
           (execute-kept s inv idle more q.registers next.word r.response r.number r.mark q.awaiting (executions_counted o.counters 1)
           next.restores next.done (record { number = next.number; mark = next.mark }) next.waits refl _ refl)
 
+      -- a panel's counter has room for the execution
+      pub execute_counts : (o : Panel) → Inv (memory (stepping_uses p o)) → o.counters.executions + 1 ≤ most_steps
+      execute_counts o inv = executions_fit _ (execute_keeps o inv).invariant
+
       -- with a counter as 32 bits hold it
       held : (o : Panel) → Inv (memory (stepping_uses p o)) → Kept (memory (stepping_uses p o)) execute (record {
         answer = reply r.number r.response r.mark;
@@ -148,7 +156,7 @@ module _ (p : Panel) where
           subst (λ (c : Counters). Kept s execute (record {
             answer = reply r.number r.response r.mark;
             state = executed s q.stack q.saved q.responses c;
-          })) (executions_held_are o.counters 1 (executions_fit _ (execute_keeps o inv).invariant)) (execute_keeps o inv)
+          })) (executions_held_are o.counters 1 (execute_counts o inv)) (execute_keeps o inv)
 
       pub execute-done : (counters : Counters) → counters ≡ executions_held q.counters 1
           → Done p execute (reply_answer r) (record q { executed = p.executed + 1; stacked = p.executed + 1; counters = counters })
