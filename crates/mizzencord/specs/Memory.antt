@@ -1,4 +1,5 @@
--- A panel in place, as the state that the contracts of the calls speak of: that of the replica which it is.
+-- A panel in place, as the state that the contracts of the calls speak of, that of the replica which it is; and its spare bytes.
+use Rattle.std.specs.Prelude.{ℕ, List, ◌≡◌}
 use Rattle.replica.specs.State.{State}
 use Rattle.replica.specs.Memory as replica
 use Rattle.mizzencord.specs.declared.Panel.{Panel}
@@ -6,6 +7,10 @@ use Rattle.mizzencord.specs.declared.Panel.{Panel}
 abbrev pub memory : Panel → State
 memory p = replica.memory p.replica
 
--- the bytes of q that no call looks at are those of p
+-- the bytes of p that no call looks at
+abbrev pub spare : Panel → List ℕ
+spare p = p.replica.spare
+
+-- the spare bytes of q are those of p
 abbrev pub SameSpare : Panel → Panel → Type 0
-SameSpare p q = replica.SameSpare p.replica q.replica
+SameSpare p q = spare q ≡ spare p

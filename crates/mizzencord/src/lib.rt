@@ -17,7 +17,7 @@ ghost use Rattle.replica.specs.internal.Model.{Inv};
 ghost use Rattle.due.specs.Due.{RunDue, ran};
 ghost use Rattle.wire.specs.Reader.{read_at};
 ghost use Rattle.intake.specs.Intake.{Received};
-ghost use Rattle.mizzencord.specs.Memory.{memory, SameSpare};
+ghost use Rattle.mizzencord.specs.Memory.{memory, spare, SameSpare};
 ghost use Rattle.mizzencord.specs.Version.{version};
 
 use creek::{Answer, Invocation};
@@ -38,7 +38,7 @@ pub struct Panel {
 #[unsafe(no_mangle)]
 pub extern "C" fn mizzencord_fresh(p: &mut Panel, panels: u8, own: PanelNo) -> u8
     ensures { Fresh panels own.0 (record { refusal = result; state = memory p.new })
-        × (p.new.replica.spare ≡ no_spare) }
+        × (spare p.new ≡ no_spare) }
 {
     refusal::outcome_number(p.replica.fresh(panels, own))
 }
